@@ -1,0 +1,184 @@
+// What the steps work on.
+use crate::counts::Counts;
+use crate::numbers::Numbers;
+use crate::watched::{WatchedFiles, WatchedSink};
+use std::alloc::Global;
+use vk_app::run;
+use vk_cases::{Tried, Unreplayed, behind};
+use vk_keeper::MemKeeper;
+use vk_lines::{end_line, push_decimal, push_line};
+
+/// The most bytes that are told of what came otherwise.
+const MOST_TOLD: usize = 1 << 20;
+
+/// A file as it was before a line of it was changed.
+#[derive(Drop)]
+struct Replaced {
+    name: String,
+    bytes: Vec<u8>,
+}
+
+/// Numbers, files and auctions, the text that is made, and what was said last.
+#[derive(Drop)]
+pub struct Stage {
+    pub alloc: Global,
+    pub numbers: Numbers,
+    pub files: WatchedFiles,
+    pub keeper: MemKeeper,
+    /// The text that is made.
+    pub text: Vec<u8>,
+    /// What the last command printed.
+    pub printed: Vec<u8>,
+    pub counts: Counts,
+    /// What came otherwise than it has to.
+    pub told: Vec<u8>,
+    /// How often something was put that isn't one line.
+    pub torn: u64,
+    replaced: Vec<Replaced>,
+}
+
+impl Stage {
+    /// No files, and a house that knows nothing.
+    pub fn new(alloc: Global) -> Stage {
+        Stage {
+            alloc,
+            numbers: Numbers::new(),
+            files: WatchedFiles::new(alloc),
+            keeper: MemKeeper::new(alloc),
+            text: Vec::new(alloc),
+            printed: Vec::new(alloc),
+            counts: Counts::new(alloc),
+            told: Vec::new(alloc),
+            torn: 0,
+            replaced: Vec::new(alloc),
+        }
+    }
+
+    /// The house knows nothing again.
+    pub fn forget(&mut self) {
+        self.keeper = MemKeeper::new(self.alloc);
+    }
+
+    /// Makes the named file hold the text, and begins another one.
+    pub fn save(&mut self, name: &str) -> Tried<()> {
+        self.files.inner.put_file(name, self.text.as_slice())?;
+        self.text.clear();
+        Ok(())
+    }
+
+    /// Appends these lines of the named file to the text, counted from 1.
+    pub fn copy(&mut self, name: &str, from: u64, to: u64) -> Tried<()> {
+        let file = self.files.inner.file(name).ok_or(Unreplayed::NoCase)?;
+        push_lines(&mut self.text, file, from, to)
+    }
+
+    /// Has the text, which is a line or more, in place of a line of the named file, until the next
+    /// run is over.
+    pub fn change(&mut self, name: String, number: u64) -> Tried<()> {
+        let file = self
+            .files
+            .inner
+            .file(name.as_str())
+            .ok_or(Unreplayed::NoCase)?;
+        let bytes = Vec::from_slice(self.alloc, file)?;
+        let mut changed = Vec::new(self.alloc);
+        push_lines(&mut changed, file, 1, number.saturating_sub(1))?;
+        changed.extend_from_slice(self.text.as_slice())?;
+        push_lines(&mut changed, file, number.saturating_add(1), u64::MAX)?;
+        self.files
+            .inner
+            .put_file(name.as_str(), changed.as_slice())?;
+        self.text.clear();
+        self.replaced.push(Replaced { name, bytes })?;
+        Ok(())
+    }
+
+    /// Runs the command of these words. Answers its status. Then all is put back that was changed.
+    pub fn run(&mut self, words: &[String]) -> Tried<u8> {
+        self.files.begin(words)?;
+        let mut out = WatchedSink::new(self.alloc);
+        let status = run(
+            self.alloc,
+            words,
+            &mut self.files,
+            &mut self.keeper,
+            &mut out,
+        );
+        self.torn = self.torn.saturating_add(out.torn());
+        self.printed.clear();
+        self.printed.extend_from_slice(out.bytes())?;
+        self.put_back()?;
+        Ok(status)
+    }
+
+    /// Has each file as it was before its first change.
+    fn put_back(&mut self) -> Tried<()> {
+        self.files.missing.clear();
+        self.files.long.clear();
+        while let Some(file) = self.replaced.pop() {
+            self.files
+                .inner
+                .put_file(file.name.as_str(), file.bytes.as_slice())?;
+        }
+        Ok(())
+    }
+
+    /// Counts a command that ended so.
+    pub fn count(&mut self, words: &[String], status: u64) -> Tried<()> {
+        let mut name = Vec::from_slice(self.alloc, b"runs of ")?;
+        match words.first() {
+            None => name.extend_from_slice(b"no word")?,
+            Some(word) => name.extend_from_slice(word.as_bytes())?,
+        }
+        name.extend_from_slice(b" to status ")?;
+        push_decimal(&mut name, status)?;
+        self.counts.add(name.as_slice())
+    }
+
+    /// Tells of what came to another text than that which is made, and begins another one.
+    pub fn compare(&mut self, step: &[u8], came: &[u8]) -> Tried<()> {
+        if came != self.text.as_slice() {
+            let wanted = Vec::from_slice(self.alloc, self.text.as_slice())?;
+            self.tell(step, came, wanted.as_slice())?;
+        }
+        self.text.clear();
+        Ok(())
+    }
+
+    /// Tells that a step came to this, and not to that.
+    pub fn tell(&mut self, step: &[u8], came: &[u8], wanted: &[u8]) -> Tried<()> {
+        if MOST_TOLD < self.told.len() {
+            return Ok(());
+        }
+        push_line(&mut self.told, step)?;
+        self.told.extend_from_slice(b"came to:\n")?;
+        self.told.extend_from_slice(came)?;
+        self.told.extend_from_slice(b"and not to:\n")?;
+        self.told.extend_from_slice(wanted)?;
+        end_line(&mut self.told)?;
+        Ok(())
+    }
+}
+
+/// Appends the lines of a file from one to another, counted from 1. Behind its last line feed no
+/// line begins.
+fn push_lines(text: &mut Vec<u8>, file: &[u8], from: u64, to: u64) -> Tried<()> {
+    let mut rest = file;
+    let mut number = 0u64;
+    while number < to && !rest.is_empty() {
+        number = number.saturating_add(1);
+        let line = first_line(rest);
+        if from <= number {
+            text.extend_from_slice(line)?;
+        }
+        rest = behind(rest, line.len());
+    }
+    Ok(())
+}
+
+/// The first line of a text, with its line feed.
+fn first_line(text: &[u8]) -> &[u8] {
+    let place = text.iter().position(|byte| *byte == b'\n');
+    let length = place.map_or(text.len(), |place| place.saturating_add(1));
+    text.get(..length).unwrap_or(text)
+}
