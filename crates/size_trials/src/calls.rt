@@ -33,7 +33,9 @@ pub fn called(stage: &mut Stage, words: &[u8]) -> Tried<()> {
         "job" => board_in(stage.alloc, &mut stage.keeper)?,
         _ => return Err(Unreplayed::NoCase),
     };
-    stage.counts.add(words)?;
+    let mut name = Vec::from_slice(stage.alloc, b"calls of ")?;
+    name.extend_from_slice(call.as_bytes())?;
+    stage.counts.add(name.as_slice())?;
     stage.compare(words, came.as_slice())
 }
 
