@@ -75,12 +75,7 @@ fn take_blocks<S: Shelf>(
 }
 
 /// Takes the lines of a block for each number of its head.
-fn take_block<S: Shelf>(
-    stage: &mut Stage,
-    folder: &mut S,
-    head: &[u8],
-    body: &[u8],
-) -> Tried<()> {
+fn take_block<S: Shelf>(stage: &mut Stage, folder: &mut S, head: &[u8], body: &[u8]) -> Tried<()> {
     let range = range_of(stage, head)?;
     for number in range.from..=range.to {
         stage.numbers.put(range.letter, number)?;

@@ -59,7 +59,11 @@ fn counts_text(stage: &Stage) -> Tried<Vec<u8>> {
         b"names looked at that the words don't have",
         stage.files.strange(),
     )?;
-    push_count(&mut text, b"pieces printed that aren't one line", stage.torn)?;
+    push_count(
+        &mut text,
+        b"pieces printed that aren't one line",
+        stage.torn,
+    )?;
     Ok(text)
 }
 

@@ -4,7 +4,8 @@ use crate::numbers::Numbers;
 use crate::watched::{WatchedFiles, WatchedSink};
 use std::alloc::Global;
 use vk_app::run;
-use vk_cases::{Tried, Unreplayed, behind};
+use vk_cases::{Tried, Unreplayed};
+use vk_io::MemShelf;
 use vk_keeper::MemKeeper;
 use vk_lines::{end_line, push_decimal, push_line};
 
@@ -107,20 +108,11 @@ impl Stage {
         self.torn = self.torn.saturating_add(out.torn());
         self.printed.clear();
         self.printed.extend_from_slice(out.bytes())?;
-        self.put_back()?;
-        Ok(status)
-    }
-
-    /// Has each file as it was before its first change.
-    fn put_back(&mut self) -> Tried<()> {
         self.files.missing.clear();
         self.files.long.clear();
-        while let Some(file) = self.replaced.pop() {
-            self.files
-                .inner
-                .put_file(file.name.as_str(), file.bytes.as_slice())?;
-        }
-        Ok(())
+        put_back(&mut self.files.inner, self.replaced.as_slice())?;
+        self.replaced.clear();
+        Ok(status)
     }
 
     /// Counts a command that ended so.
@@ -160,25 +152,25 @@ impl Stage {
     }
 }
 
-/// Appends the lines of a file from one to another, counted from 1. Behind its last line feed no
-/// line begins.
+/// Appends the lines of a file from one to another, counted from 1. No line of a file is empty.
 fn push_lines(text: &mut Vec<u8>, file: &[u8], from: u64, to: u64) -> Tried<()> {
-    let mut rest = file;
     let mut number = 0u64;
-    while number < to && !rest.is_empty() {
+    for line in file.split(|byte| *byte == b'\n') {
         number = number.saturating_add(1);
-        let line = first_line(rest);
-        if from <= number {
-            text.extend_from_slice(line)?;
+        if to < number {
+            return Ok(());
         }
-        rest = behind(rest, line.len());
+        if from <= number && !line.is_empty() {
+            push_line(text, line)?;
+        }
     }
     Ok(())
 }
 
-/// The first line of a text, with its line feed.
-fn first_line(text: &[u8]) -> &[u8] {
-    let place = text.iter().position(|byte| *byte == b'\n');
-    let length = place.map_or(text.len(), |place| place.saturating_add(1));
-    text.get(..length).unwrap_or(text)
+/// Has each file as it was before its first change.
+fn put_back(files: &mut MemShelf, replaced: &[Replaced]) -> Tried<()> {
+    for file in replaced.iter().rev() {
+        files.put_file(file.name.as_str(), file.bytes.as_slice())?;
+    }
+    Ok(())
 }

@@ -63,10 +63,7 @@ fn set(stage: &mut Stage, step: &[u8]) -> Tried<()> {
 fn take<S: Shelf>(stage: &mut Stage, folder: &mut S, name: &[u8]) -> Tried<()> {
     let name = text_of(stage.alloc, name)?;
     let bytes = read_cases(stage.alloc, folder, name.as_str())?;
-    stage
-        .files
-        .inner
-        .put_file(name.as_str(), bytes.as_slice())?;
+    stage.files.inner.put_file(name.as_str(), bytes.as_slice())?;
     Ok(())
 }
 
@@ -120,10 +117,7 @@ fn holds(stage: &mut Stage, name: &str) -> Tried<()> {
 
 /// Has what was printed last as a file.
 fn keep(stage: &mut Stage, name: &str) -> Tried<()> {
-    stage
-        .files
-        .inner
-        .put_file(name, stage.printed.as_slice())?;
+    stage.files.inner.put_file(name, stage.printed.as_slice())?;
     Ok(())
 }
 

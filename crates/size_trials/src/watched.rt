@@ -10,7 +10,8 @@ use vk_io::{MemShelf, MemSink, OutsideErr, Shelf, Sink};
 const TOO_LONG: u64 = (1 << 30) + 1;
 
 /// The names that no words of a sample have.
-const SAMPLES: &[u8] = b"sample-board sample-challenge-1 sample-reply-1 sample-challenge-2 sample-reply-2 claim-board claim-challenge-1 claim-reply-1 claim-challenge-2 claim-reply-2";
+const SAMPLES: &[u8] =
+    b"sample-board sample-challenge-1 sample-reply-1 sample-challenge-2 sample-reply-2 claim-board claim-challenge-1 claim-reply-1 claim-challenge-2 claim-reply-2";
 
 /// Files in memory. One of them may be said to be missing, and one to have a byte more than it may
 /// have. It isn't modelled.
