@@ -8,7 +8,7 @@ use crate::stage::Stage;
 use crate::watched::WatchedFiles;
 use std::alloc::Global;
 use vk_board::{head_text, lane_text, seal_lines_text};
-use vk_cases::{Tried, Unreplayed, text_of, word_at, words_of};
+use vk_cases::{Tried, Unreplayed, words_of};
 use vk_claim::{ClaimChecker, ClaimFinding};
 use vk_claims::ClaimCircuits;
 use vk_coin::{read_share, share_text};
@@ -26,16 +26,21 @@ use vk_verifier::Finding;
 pub fn called(stage: &mut Stage, words: &[u8]) -> Tried<()> {
     let names = words_of(stage.alloc, words)?;
     stage.files.begin(names.as_slice())?;
-    let call = text_of(stage.alloc, word_at(words, 0)?)?;
-    let came = match call.as_str() {
-        "share" => share_in(stage.alloc, &mut stage.files, name_at(names.as_slice(), 1)?)?,
-        "checker" => checked(stage.alloc, &mut stage.files, names.as_slice())?,
+    let called = called_by(stage, words, names.as_slice());
+    called
+}
+
+/// The same of these words, of which the first one is the call's.
+fn called_by(stage: &mut Stage, words: &[u8], names: &[String]) -> Tried<()> {
+    let call = name_at(names, 0)?;
+    let came = match call {
+        "share" => share_in(stage.alloc, &mut stage.files, name_at(names, 1)?)?,
+        "checker" => checked(stage.alloc, &mut stage.files, names)?,
         "job" => board_in(stage.alloc, &mut stage.keeper)?,
         _ => return Err(Unreplayed::NoCase),
     };
-    let mut name = Vec::from_slice(stage.alloc, b"calls of ")?;
-    name.extend_from_slice(call.as_bytes())?;
-    stage.counts.add(name.as_slice())?;
+    let name = format!(in stage.alloc; "calls of {call}")?;
+    stage.counts.add(name.as_bytes())?;
     stage.compare(words, came.as_slice())
 }
 
@@ -119,13 +124,18 @@ fn finding_text(alloc: Global, lanes: u32, found: ClaimFinding) -> Tried<Vec<u8>
 /// The board of the auction that the keeper has.
 fn board_in(alloc: Global, keeper: &mut MemKeeper) -> Tried<Vec<u8>> {
     match keeper.get(&ID)? {
-        Some(auction) => {
-            let job = job_of(alloc, auction)?;
-            let text = board_of(alloc, &job)?;
-            Ok(text)
-        }
+        Some(auction) => board_with(alloc, auction),
         None => Err(Unreplayed::NoCase),
     }
+}
+
+/// The board of this auction.
+fn board_with(alloc: Global, auction: Auction) -> Tried<Vec<u8>>
+    requires { IsAuction auction }
+{
+    let job = job_of(alloc, auction)?;
+    let text = board_of(alloc, &job);
+    text
 }
 
 /// The job of an auction that is proved.

@@ -7,7 +7,7 @@ use vk_app::run;
 use vk_cases::{Tried, Unreplayed};
 use vk_io::MemShelf;
 use vk_keeper::MemKeeper;
-use vk_lines::{end_line, push_decimal, push_line};
+use vk_lines::{end_line, push_decimal, push_line, push_space};
 
 /// The most bytes that are told of what came otherwise.
 const MOST_TOLD: usize = 1 << 20;
@@ -76,21 +76,17 @@ impl Stage {
     /// Has the text, which is a line or more, in place of a line of the named file, until the next
     /// run is over.
     pub fn change(&mut self, name: String, number: u64) -> Tried<()> {
-        let file = self
-            .files
-            .inner
-            .file(name.as_str())
-            .ok_or(Unreplayed::NoCase)?;
-        let bytes = Vec::from_slice(self.alloc, file)?;
-        let mut changed = Vec::new(self.alloc);
-        push_lines(&mut changed, file, 1, number.saturating_sub(1))?;
-        changed.extend_from_slice(self.text.as_slice())?;
-        push_lines(&mut changed, file, number.saturating_add(1), u64::MAX)?;
-        self.files
-            .inner
-            .put_file(name.as_str(), changed.as_slice())?;
-        self.text.clear();
+        let bytes = Vec::from_slice(self.alloc, self.files.bytes(name.as_str()))?;
+        let changed = changed(self.alloc, bytes.as_slice(), number, self.text.as_slice())?;
         self.replaced.push(Replaced { name, bytes })?;
+        self.put_changed(changed.as_slice())
+    }
+
+    /// Has this in the file that was replaced last, and begins another text.
+    fn put_changed(&mut self, changed: &[u8]) -> Tried<()> {
+        self.text.clear();
+        let replaced = self.replaced.last().ok_or(Unreplayed::NoCase)?;
+        self.files.inner.put_file(replaced.name.as_str(), changed)?;
         Ok(())
     }
 
@@ -105,6 +101,12 @@ impl Stage {
             &mut self.keeper,
             &mut out,
         );
+        let ended = self.end(words, status, &out);
+        ended
+    }
+
+    /// Ends the run of a command, which is counted, and puts back all that was changed.
+    fn end(&mut self, words: &[String], status: u8, out: &WatchedSink) -> Tried<u8> {
         self.torn = self.torn.saturating_add(out.torn());
         self.printed.clear();
         self.printed.extend_from_slice(out.bytes())?;
@@ -112,11 +114,12 @@ impl Stage {
         self.files.long.clear();
         put_back(&mut self.files.inner, self.replaced.as_slice())?;
         self.replaced.clear();
+        self.count(words, u64::from(status))?;
         Ok(status)
     }
 
     /// Counts a command that ended so.
-    pub fn count(&mut self, words: &[String], status: u64) -> Tried<()> {
+    fn count(&mut self, words: &[String], status: u64) -> Tried<()> {
         let mut name = Vec::from_slice(self.alloc, b"runs of ")?;
         match words.first() {
             None => name.extend_from_slice(b"no word")?,
@@ -127,29 +130,55 @@ impl Stage {
         self.counts.add(name.as_slice())
     }
 
-    /// Tells of what came to another text than that which is made, and begins another one.
-    pub fn compare(&mut self, step: &[u8], came: &[u8]) -> Tried<()> {
-        if came != self.text.as_slice() {
-            let wanted = Vec::from_slice(self.alloc, self.text.as_slice())?;
-            self.tell(step, came, wanted.as_slice())?;
+    /// Tells of a command that ended with another status, or printed another text, than it has to,
+    /// and begins another text.
+    pub fn judge(&mut self, step: &[u8], wanted: u64, status: u64) -> Tried<()> {
+        if status != wanted || self.printed.as_slice() != self.text.as_slice() {
+            push_decimal(&mut self.told, status)?;
+            push_space(&mut self.told)?;
+            tell(
+                &mut self.told,
+                step,
+                self.printed.as_slice(),
+                self.text.as_slice(),
+            )?;
         }
         self.text.clear();
         Ok(())
     }
 
-    /// Tells that a step came to this, and not to that.
-    pub fn tell(&mut self, step: &[u8], came: &[u8], wanted: &[u8]) -> Tried<()> {
-        if MOST_TOLD < self.told.len() {
-            return Ok(());
+    /// Tells of a file that holds another text than it has to, and begins another text.
+    pub fn holds(&mut self, step: &[u8], name: &str) -> Tried<()> {
+        let held = self.files.inner.file(name).unwrap_or(&[]);
+        if held != self.text.as_slice() {
+            tell(&mut self.told, step, held, self.text.as_slice())?;
         }
-        push_line(&mut self.told, step)?;
-        self.told.extend_from_slice(b"came to:\n")?;
-        self.told.extend_from_slice(came)?;
-        self.told.extend_from_slice(b"and not to:\n")?;
-        self.told.extend_from_slice(wanted)?;
-        end_line(&mut self.told)?;
+        self.text.clear();
         Ok(())
     }
+
+    /// Tells of a call that came to another text than it has to, and begins another text.
+    pub fn compare(&mut self, step: &[u8], came: &[u8]) -> Tried<()> {
+        if came != self.text.as_slice() {
+            tell(&mut self.told, step, came, self.text.as_slice())?;
+        }
+        self.text.clear();
+        Ok(())
+    }
+}
+
+/// Tells that a step came to this, and not to that.
+fn tell(told: &mut Vec<u8>, step: &[u8], came: &[u8], wanted: &[u8]) -> Tried<()> {
+    if MOST_TOLD < told.len() {
+        return Ok(());
+    }
+    push_line(told, step)?;
+    told.extend_from_slice(b"came to:\n")?;
+    told.extend_from_slice(came)?;
+    told.extend_from_slice(b"and not to:\n")?;
+    told.extend_from_slice(wanted)?;
+    end_line(told)?;
+    Ok(())
 }
 
 /// Appends the lines of a file from one to another, counted from 1. No line of a file is empty.
@@ -165,6 +194,19 @@ fn push_lines(text: &mut Vec<u8>, file: &[u8], from: u64, to: u64) -> Tried<()> 
         }
     }
     Ok(())
+}
+
+/// A file with this text in place of the line of that number, from 1.
+fn changed(alloc: Global, file: &[u8], number: u64, text: &[u8]) -> Tried<Vec<u8>> {
+    let mut changed = Vec::new(alloc);
+    push_changed(&mut changed, file, number, text)?;
+    Ok(changed)
+}
+
+fn push_changed(changed: &mut Vec<u8>, file: &[u8], number: u64, text: &[u8]) -> Tried<()> {
+    push_lines(changed, file, 1, number.saturating_sub(1))?;
+    changed.extend_from_slice(text)?;
+    push_lines(changed, file, number.saturating_add(1), u64::MAX)
 }
 
 /// Has each file as it was before its first change.

@@ -43,13 +43,20 @@ pub fn take_step<S: Shelf>(stage: &mut Stage, folder: &mut S, step: &[u8]) -> Tr
         return set(stage, step);
     }
     let made = filled(stage.alloc, &stage.numbers, &stage.files, step)?;
+    let taken = take_filled(stage, folder, made.as_slice());
+    taken
+}
+
+/// Takes a step whose places are filled.
+fn take_filled<S: Shelf>(stage: &mut Stage, folder: &mut S, step: &[u8]) -> Tried<()> {
     let word = text_of(stage.alloc, word_at(step, 0)?)?;
-    let rest = behind(made.as_slice(), word.len().saturating_add(1));
-    match word.as_str() {
+    let rest = behind(step, word.len().saturating_add(1));
+    let taken = match word.as_str() {
         "take" => take(stage, folder, rest),
         "run" => run_step(stage, rest),
         _ => take_text(stage, word.as_str(), rest),
-    }
+    };
+    taken
 }
 
 /// Has a number for a letter.
@@ -94,7 +101,7 @@ fn take_file(stage: &mut Stage, word: &str, rest: &[u8]) -> Tried<()> {
             number_at(rest, 2, u64::MAX)?,
         ),
         "save" => stage.save(name.as_str()),
-        "holds" => holds(stage, name.as_str()),
+        "holds" => stage.holds(rest, name.as_str()),
         "keep" => keep(stage, name.as_str()),
         "change" => stage.change(name, number_at(rest, 1, u64::MAX)?),
         "missing" => {
@@ -109,12 +116,6 @@ fn take_file(stage: &mut Stage, word: &str, rest: &[u8]) -> Tried<()> {
     }
 }
 
-/// Whether the named file is the text.
-fn holds(stage: &mut Stage, name: &str) -> Tried<()> {
-    let held = Vec::from_slice(stage.alloc, stage.files.bytes(name))?;
-    stage.compare(name.as_bytes(), held.as_slice())
-}
-
 /// Has what was printed last as a file.
 fn keep(stage: &mut Stage, name: &str) -> Tried<()> {
     stage.files.inner.put_file(name, stage.printed.as_slice())?;
@@ -125,17 +126,11 @@ fn keep(stage: &mut Stage, name: &str) -> Tried<()> {
 fn run_step(stage: &mut Stage, rest: &[u8]) -> Tried<()> {
     let wanted = number_at(rest, 0, 9)?;
     let mut parts = behind(rest, 2).split(|byte| *byte == b'|');
-    let words = words_of(stage.alloc, parts.next().ok_or(Unreplayed::NoCase)?)?;
+    let command = parts.next().ok_or(Unreplayed::NoCase)?;
     if let Some(line) = parts.next() {
         push_line(&mut stage.text, behind(line, 1))?;
     }
-    let status = u64::from(stage.run(words.as_slice())?);
-    stage.count(words.as_slice(), status)?;
-    let came = Vec::from_slice(stage.alloc, stage.printed.as_slice())?;
-    if status == wanted {
-        return stage.compare(rest, came.as_slice());
-    }
-    stage.text.clear();
-    let told = format!(in stage.alloc; "status {status}\n")?;
-    stage.tell(rest, told.as_bytes(), came.as_slice())
+    let words = words_of(stage.alloc, command)?;
+    let status = stage.run(words.as_slice());
+    stage.judge(rest, wanted, u64::from(status?))
 }
