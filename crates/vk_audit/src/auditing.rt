@@ -1,14 +1,16 @@
 //! An auditor's command over a shelf of files.
 
-ghost use Rattle.std.specs.Prelude.{◌≡◌, IfSome};
+ghost use Rattle.std.specs.Prelude.{◌≡◌, IfSome, IsErrOf};
 ghost use Rattle.vk_io.specs.Reads.{OnlyReads};
 ghost use Rattle.vk_lines.specs.Gives.{Gives};
 ghost use Rattle.vk_bids.specs.Confrontation.{fault_of};
+ghost use Rattle.vk_verifier.specs.Wanting.{MemoryWasWanting};
 ghost use Rattle.vk_words.specs.Names.{confront_seen, extract_seen, verify_seen};
 ghost use Rattle.vk_audit.specs.Audits.{Says, audit_said, audit_seen};
 ghost use Rattle.vk_audit.specs.Confrontations.{confrontation_in};
 ghost use Rattle.vk_audit.specs.Extractions.{replies_seen};
-ghost use Rattle.vk_audit.specs.Verdicts.{verified_words};
+ghost use Rattle.vk_audit.specs.Reports.{report_said};
+ghost use Rattle.vk_audit.specs.Verdicts.{verified_words, verify_said};
 
 use crate::confrontations::confront_answered;
 use crate::extractions::extract_answered;
@@ -64,16 +66,12 @@ pub fn audit<S: Shelf>(
 ) -> Result<Said, OutsideErr>
     ensures said { Says (S.held shelf.old) result
         (λ files. audit_said files (audit_seen audit.now)) }
+    ensures wanting { IsErrOf result OutsideErr.NoMemory → MemoryWasWanting }
     ensures shelf { OnlyReads S.held S.Shelf.faults OutsideErr.Failed result shelf.old shelf.new }
 {
     match audit {
         AuditOrder::Verify(names) => {
-            let VerifyNames { board, attempt } = *names;
-            let names = verified_names(names);
-            let said = match verdict(alloc, shelf, board, attempt.challenge, attempt.reply) {
-                Ok(verdict) => judged(alloc, &names, false, verdict)?,
-                Err(fault) => unread(alloc, &names, fault)?,
-            };
+            let said = verified(alloc, shelf, names)?;
             Ok(said)
         }
         AuditOrder::Extract(names) => {
@@ -87,13 +85,45 @@ pub fn audit<S: Shelf>(
             said
         }
         AuditOrder::Report(board) => {
-            let said = match read_report(alloc, shelf, board) {
-                Ok(report) => reported(alloc, &report)?,
-                Err(fault) => unreported(alloc, board, fault)?,
-            };
+            let said = report_told(alloc, shelf, board)?;
             Ok(said)
         }
     }
+}
+
+/// What is said of one reply.
+#[tactic(auto, using(vk_verifier::specs::Wanting::memory_was_wanting))]
+fn verified<S: Shelf>(
+    alloc: Global,
+    shelf: &mut S,
+    names: &VerifyNames<'_>,
+) -> Result<Said, OutsideErr>
+    ensures said { Says (S.held shelf.old) result
+        (λ files. verify_said files (verify_seen names.now)) }
+    ensures wanting { IsErrOf result OutsideErr.NoMemory → MemoryWasWanting }
+    ensures shelf { OnlyReads S.held S.Shelf.faults OutsideErr.Failed result shelf.old shelf.new }
+{
+    let VerifyNames { board, attempt } = *names;
+    let names = verified_names(names);
+    let said = match verdict(alloc, shelf, board, attempt.challenge, attempt.reply) {
+        Ok(verdict) => judged(alloc, &names, false, verdict)?,
+        Err(fault) => unread(alloc, &names, fault)?,
+    };
+    Ok(said)
+}
+
+/// What is said of a board alone.
+#[tactic(auto, using(vk_verifier::specs::Wanting::memory_was_wanting))]
+fn report_told<S: Shelf>(alloc: Global, shelf: &mut S, board: &str) -> Result<Said, OutsideErr>
+    ensures said { Says (S.held shelf.old) result (λ files. report_said files board.now) }
+    ensures wanting { IsErrOf result OutsideErr.NoMemory → MemoryWasWanting }
+    ensures shelf { OnlyReads S.held S.Shelf.faults OutsideErr.Failed result shelf.old shelf.new }
+{
+    let said = match read_report(alloc, shelf, board) {
+        Ok(report) => reported(alloc, &report)?,
+        Err(fault) => unreported(alloc, board, fault)?,
+    };
+    Ok(said)
 }
 
 /// What the secret comes to against the two replies.
@@ -105,6 +135,7 @@ fn confronted_in<S: Shelf>(
     ensures modelled { IfSome (S.held shelf.old) (λ files.
         Gives fault_of (λ confrontation. confrontation) result
         (confrontation_in files (confront_seen names.now))) }
+    ensures wanting { IsErrOf result (ConfrontErr.Unread VErr.NoMemory) → MemoryWasWanting }
     ensures shelf { OnlyReads S.held S.Shelf.faults (ConfrontErr.Unread VErr.Failed) result
         shelf.old shelf.new }
 {

@@ -1,6 +1,6 @@
 //! What is said of what a bidder's secret comes to against two replies to a board.
 
-ghost use Rattle.std.specs.Prelude.{◌≡◌, ℕ, Err, IfOk, IsOk, Ok, OnOk, Result};
+ghost use Rattle.std.specs.Prelude.{◌≡◌, ℕ, Err, IfOk, IsErrOf, IsOk, Ok, OnOk, Result};
 ghost use Rattle.vk_audit.specs.Confrontations.{IsOfNamedFile, NamesNoFile, confrontation_said, confront_unread_said};
 ghost use Rattle.vk_audit.specs.Verdicts.{answer_said};
 ghost use Rattle.vk_commit.specs.Commitment.{TwoOpeningsSeen};
@@ -8,6 +8,7 @@ ghost use Rattle.vk_io.specs.Faults.{Causes};
 ghost use Rattle.vk_lines.specs.Gives.{Gives};
 ghost use Rattle.vk_bids.specs.declared.confrontation.ConfrontErr.{ConfrontErr};
 ghost use Rattle.vk_bids.specs.declared.confrontation.Confrontation.{Confrontation};
+ghost use Rattle.vk_verifier.specs.Wanting.{MemoryWasWanting};
 ghost use Rattle.vk_bids.specs.Confrontation.{fault_of};
 ghost use Rattle.vk_bids.specs.ConfrontTexts.{confrontation_text};
 ghost use Rattle.vk_bids.specs.Texts.{clash_text};
@@ -85,6 +86,7 @@ pub fn confront_unread(
 
 /// What is said of what the files came to, or of the first that is missing or too long. A failure
 /// is handed on.
+#[tactic(auto, using(vk_verifier::specs::Wanting::memory_was_wanting))]
 pub fn confront_answered(
     alloc: Global,
     names: &ConfrontNames<'_>,
@@ -97,6 +99,7 @@ pub fn confront_answered(
         → IfOk result (λ said. said
         ≡ answer_said (confrontation_said (confront_seen names.now))
         (confront_unread_said (confront_seen names.now)) expected) }
+    ensures wanting { IsErrOf result OutsideErr.NoMemory → MemoryWasWanting }
     ensures causes { (before after : ℕ)
         → Causes (ConfrontErr.Unread VErr.Failed) answer before after
         → Causes OutsideErr.Failed result before after }

@@ -1,11 +1,12 @@
 //! What is said of what two replies to a board come to.
 
-ghost use Rattle.std.specs.Prelude.{◌≡◌, ℕ, IfOk, Ok, Result};
+ghost use Rattle.std.specs.Prelude.{◌≡◌, ℕ, IfOk, IsErr, IsErrOf, Ok, Result};
 ghost use Rattle.vk_commit.specs.Commitment.{TwoOpeningsSeen};
 ghost use Rattle.vk_io.specs.Faults.{Causes};
 ghost use Rattle.vk_lines.specs.Gives.{Gives};
 ghost use Rattle.vk_verifier.specs.declared.answers.VErr.{VErr};
 ghost use Rattle.vk_verifier.specs.Verdicts.{unread_file};
+ghost use Rattle.vk_verifier.specs.Wanting.{MemoryWasWanting};
 ghost use Rattle.vk_bids.specs.Extraction.{Extraction as BoardExtraction};
 ghost use Rattle.vk_bids.specs.Texts.{clash_text};
 ghost use Rattle.vk_words.specs.Names.{extract_seen};
@@ -23,6 +24,7 @@ use vk_words::ExtractNames;
 
 /// What is said of a reply that isn't accepted, or of what two accepted replies come to. A clash
 /// takes no memory.
+#[tactic(auto, using(vk_verifier::specs::Wanting::memory_was_wanting))]
 pub fn extracted(
     alloc: Global,
     names: &ExtractNames<'_>,
@@ -32,6 +34,7 @@ pub fn extracted(
         (λ said. said ≡ extraction_said (extract_seen names.now) extraction.now) }
     ensures clash { (two : TwoOpeningsSeen) → extraction.now ≡ Extraction.Clash two
         → result ≡ Ok (record { status = 3; text = clash_text two }) }
+    ensures wanting { IsErr result → MemoryWasWanting }
 {
     match extraction {
         Extraction::Refused { second, verdict } => {
@@ -61,6 +64,7 @@ pub fn extract_answered(
         (unread_said (extract_seen names.now)) expected) }
     ensures clash { (two : TwoOpeningsSeen) → answer ≡ Ok (Extraction.Clash two)
         → result ≡ Ok (record { status = 3; text = clash_text two }) }
+    ensures wanting { IsErrOf result OutsideErr.NoMemory → MemoryWasWanting }
     ensures causes { (before after : ℕ) → Causes VErr.Failed answer before after
         → Causes OutsideErr.Failed result before after }
 {

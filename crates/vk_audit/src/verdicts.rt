@@ -1,7 +1,8 @@
 //! What is said of a verdict, and of files that give none.
 
-ghost use Rattle.std.specs.Prelude.{◌≡◌, ℕ, IfOk, IsOk, OnOk, Err};
+ghost use Rattle.std.specs.Prelude.{◌≡◌, ℕ, IfOk, IsErrOf, IsOk, OnOk, Err};
 ghost use Rattle.vk_io.specs.Faults.{Causes};
+ghost use Rattle.vk_verifier.specs.Wanting.{MemoryWasWanting};
 ghost use Rattle.vk_words.specs.Names.{extract_seen};
 ghost use Rattle.vk_effect.specs.NamedFiles.{refused_said};
 ghost use Rattle.vk_audit.specs.Verdicts.{IsOfFile, fault_text, judged_said, name_of, reply_of, row_cause, same_said, unread_said, wire_cause};
@@ -111,9 +112,11 @@ pub fn same_challenge() -> Said
 
 /// What is said of the first file that is missing or too long, so that there is no verdict. A
 /// failure is handed on.
+#[tactic(auto, using(vk_verifier::specs::Wanting::memory_was_wanting))]
 pub fn unread(alloc: Global, names: &ExtractNames<'_>, fault: VErr) -> Result<Said, OutsideErr>
     ensures said { IfOk result (λ said. said ≡ unread_said (extract_seen names.now) fault) }
     ensures file { OnOk result (IsOfFile fault) }
+    ensures wanting { IsErrOf result OutsideErr.NoMemory → MemoryWasWanting }
     ensures causes { (before after : ℕ) → Causes {T = Unit {0}} VErr.Failed (Err fault) before after
         → Causes OutsideErr.Failed result before after }
 {

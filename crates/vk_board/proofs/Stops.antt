@@ -1,5 +1,5 @@
 -- Where a reader of seals stands when memory is wanting.
-use Rattle.std.proofs.Common.{◌≡◌, ℕ, zero, suc, ◌+◌, ◌<◌, inr, List, [], ◌∷◌, ◌++◌, Option, Some, None, Result, Ok, Err, refl, ap, sym, ◌∙◌, subst}
+use Rattle.std.proofs.Common.{◌≡◌, ℕ, zero, suc, ◌<◌, inr, List, [], ◌∷◌, ◌++◌, Option, Some, None, Result, Ok, Err, refl, ap, sym, ◌∙◌, subst}
 use Rattle.std.specs.Option.{IfSome}
 use Rattle.std.specs.Prelude.{IsOkAnd}
 use Rattle.vk_residue.specs.Steps.{◌>>=◌}
@@ -7,7 +7,7 @@ use Rattle.vk_io.specs.Files.{Files}
 use Rattle.vk_lines.specs.Lines.{Rest, LinesValue, rest_of}
 use Rattle.vk_lines.specs.Forms.{many_onto}
 use Rattle.vk_board.specs.declared.board.SealLines.{SealLines}
-use Rattle.vk_board.specs.Reading.{seal_at, seal_lines_at, HasRead, IsAmongSeals}
+use Rattle.vk_board.specs.Reading.{seal_at, seat_at, next_seal_at, HasRead, IsAmongSeals}
 
 -- a step behind two, as one behind the first
 bind_on : {A B C : Type 0} (r : Result A ℕ) (first : A → Result B ℕ) (both : A → Result C ℕ)
@@ -74,20 +74,22 @@ pub all_left : {X : Type 0} (held : Option Files) (read : List X → Rest → Re
 all_left None read xs left count start none all = tt
 all_left (Some files) read xs left count start none all = rw (none, all) refl
 
-behind : (held : Option Files) (lanes : ℕ) (found : List SealLines) (count : ℕ)
-    (old new : LinesValue)
-    → AreRead held (seal_at lanes) found count (rest_of old) (rest_of new)
-    → HasRead (seal_lines_at count lanes) held old new
-behind None lanes found count old new so_far = tt
-behind (Some files) lanes found count old new so_far =
+-- behind so many seals, and the line that begins the next
+begins : (held : Option Files) (lanes : ℕ) (before : List SealLines) (count : ℕ)
+    (old mid new : LinesValue)
+    → AreRead held (seal_at lanes) before count (rest_of old) (rest_of mid)
+    → HasRead (seat_at before) held mid new → HasRead (next_seal_at count lanes) held old new
+begins None lanes before count old mid new so_far step = tt
+begins (Some files) lanes before count old mid new so_far step =
     let P : Result (List SealLines × Rest) ℕ → Type 0 =
-    λ r. IsOkAnd r (λ part. part.1 ≡ rest_of new files) in
-    subst P (sym so_far) refl
+    λ r. IsOkAnd (r >>= λ found. seat_at found.0 found.1) (λ part. part.1 ≡ rest_of new files) in
+    subst P (sym so_far) step
 
--- where it wants memory behind a seal
-pub among_behind : (held : Option Files) (lanes seals : ℕ) (found : List SealLines) (count : ℕ)
-    (old new : LinesValue) → count < seals
-    → AreRead held (seal_at lanes) found (count + 1) (rest_of old) (rest_of new)
-    → IsAmongSeals seals lanes held old new
-among_behind held lanes seals found count old new fewer so_far =
-    (count, fewer, inr (behind held lanes found (count + 1) old new so_far))
+-- where it wants memory in a seal
+pub among_in : (held now : Option Files) (lanes seals : ℕ) (before : List SealLines) (count : ℕ)
+    (old mid new : LinesValue) → now ≡ held → count < seals
+    → AreRead held (seal_at lanes) before count (rest_of old) (rest_of mid)
+    → HasRead (seat_at before) now mid new → IsAmongSeals seals lanes held old new
+among_in held now lanes seals before count old mid new same fewer so_far step =
+    let P : Option Files → Type 0 = λ told. HasRead (seat_at before) told mid new in
+    inr (count, fewer, begins held lanes before count old mid new so_far (subst P same step))

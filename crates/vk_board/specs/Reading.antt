@@ -144,11 +144,10 @@ abbrev pub next_seal_at : ℕ → ℕ → Rest → Result (ℕ × Rest) ℕ
 next_seal_at seals lanes rest = seal_lines_at seals lanes rest >>= λ before.
     seat_at before.0 before.1
 
--- a reader stands behind the line that begins one of so many seals, or behind a whole one
+-- a reader stands where it stood, or behind the line that begins one of so many seals
 abbrev pub IsAmongSeals : ℕ → ℕ → Option Files → LinesValue → LinesValue → Type 0
-IsAmongSeals seals lanes held old new =
-    (before : ℕ) × (before < seals) × (HasRead (next_seal_at before lanes) held old new
-    ⊎ HasRead (seal_lines_at (before + 1) lanes) held old new)
+IsAmongSeals seals lanes held old new = (new ≡ old)
+    ⊎ ((before : ℕ) × (before < seals) × HasRead (next_seal_at before lanes) held old new)
 
 -- a reader stands so among the seals behind a head
 abbrev pub IsAmongFront : Option Files → LinesValue → LinesValue → Type 0

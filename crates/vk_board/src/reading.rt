@@ -181,7 +181,8 @@ pub fn read_seals<S: Shelf>(
 }
 
 /// Reads this many seals of this many lanes. Malformed carries the number of the first line that
-/// isn't what its place demands; a seat that an earlier seal has is a fault at its line.
+/// isn't what its place demands; a seat that an earlier seal has is a fault at its line. Memory is
+/// taken before the first line, and in each seal behind the line that begins it.
 pub fn read_seal_lines<S: Shelf>(
     alloc: Global,
     shelf: &mut S,
@@ -200,12 +201,12 @@ pub fn read_seal_lines<S: Shelf>(
         → IsAmongSeals count lanes (S.held shelf.old) lines.old lines.new
         ⊎ Rose (S.Shelf.wants shelf.old) (S.Shelf.wants shelf.new) }
 {
-    let mut seals = Seq::new(alloc);
+    let mut seals = Vec::with_capacity(alloc, count as usize)?;
     for index in 0..count {
-        let seal = read_seal(alloc, shelf, lines, lanes, &seals)?;
+        let seal = read_seal(alloc, shelf, lines, lanes, seals.as_slice())?;
         seals.push(seal)?;
     }
-    Ok(seals)
+    Ok(Seq::from_vec(seals))
 }
 
 /// Reads a seal of so many lanes after those before it.
@@ -215,7 +216,7 @@ fn read_seal<S: Shelf>(
     shelf: &mut S,
     lines: &mut Lines,
     lanes: u32,
-    before: &Seq<SealLines>,
+    before: &[SealLines],
 ) -> Result<SealLines, ReadErr>
     ensures modelled { ReadsPart (seal_at lanes before.now) (S.held shelf.old) lines.old lines.new
         result }
@@ -234,7 +235,7 @@ fn read_seal<S: Shelf>(
 }
 
 /// A seal of what was read.
-fn seal_from(seat: u16, coms: Seq<WireCom>, lanes: u32, before: &Seq<SealLines>) -> SealLines
+fn seal_from(seat: u16, coms: Seq<WireCom>, lanes: u32, before: &[SealLines]) -> SealLines
     requires some_seat { 1 ≤ seat }
     requires new_seat { is_new_seat (seats_of before.now) seat ≡ true }
     requires count { length coms ≡ lanes }
@@ -250,7 +251,7 @@ fn seal_from(seat: u16, coms: Seq<WireCom>, lanes: u32, before: &Seq<SealLines>)
 fn read_seat<S: Shelf>(
     shelf: &mut S,
     lines: &mut Lines,
-    before: &Seq<SealLines>,
+    before: &[SealLines],
 ) -> Result<u16, ReadErr>
     ensures modelled { ReadsPart (line_by (seat_line (seats_of before.now))) (S.held shelf.old)
         lines.old lines.new result }
@@ -267,7 +268,7 @@ fn read_seat<S: Shelf>(
 }
 
 /// The seat of a seal's first line.
-fn seat_of(text: &[u8], before: &Seq<SealLines>) -> Option<u16>
+fn seat_of(text: &[u8], before: &[SealLines]) -> Option<u16>
     ensures value { result ≡ seat_line (seats_of before.now) text.now }
     ensures some { IfSome result (λ seat. 1 ≤ seat) }
     ensures new { IfSome result (λ seat. is_new_seat (seats_of before.now) seat ≡ true) }
@@ -278,7 +279,7 @@ fn seat_of(text: &[u8], before: &Seq<SealLines>) -> Option<u16>
         return None;
     }
     let seat = seat as u16;
-    if is_new_seat(before.as_slice(), seat) {
+    if is_new_seat(before, seat) {
         Some(seat)
     } else {
         None
