@@ -18,4 +18,5 @@ pub record IsRead {F E : Type 0} (position : F → Option ℕ) (remaining : F �
 
 -- so it is of what stands at that place before and after
 abbrev pub AtPlace : {X : Type 0} → ℕ → (X → X → Type 0) → (old new : List X) → Type 0
-AtPlace {X} place step old new = (d : X) → step (slice_index_or old place d) (slice_index_or new place d)
+AtPlace {X} place step old new =
+    (d : X) → step (slice_index_or old place d) (slice_index_or new place d)
