@@ -1,5 +1,5 @@
 // Calls of the library that no command makes.
-ghost use Rattle.std.specs.Prelude.{◌≡◌, ◌≤◌, ◌↔◌, IfOk, IsSome, IsTrue, false, length};
+ghost use Rattle.std.specs.Prelude.{◌≡◌, ◌↔◌, IfOk, IsSome, IsTrue, false};
 ghost use Rattle.vk_claim.specs.Two.{IsClaimOver};
 ghost use Rattle.vk_keeper.specs.Auctions.{IsAuction, seed_of};
 
