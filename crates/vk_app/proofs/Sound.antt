@@ -15,7 +15,7 @@ use Rattle.vk_claims.specs.Statuses.{AcceptsTwoClaims, IsClaimExtracted}
 use Rattle.vk_claims.proofs.Soundness.{begins_with_claim, values_are_told}
 use Rattle.vk_claims.proofs.Soundness as claims
 use Rattle.vk_words.specs.Commands.{CommandWords, ClaimExtract, Extract, command_words}
-use Rattle.vk_words.specs.Names.{ExtractWords, attempt_at, extract_in, is_name, verify_in}
+use Rattle.vk_words.specs.Names.{AttemptWords, ExtractWords, VerifyWords, attempt_at, extract_in, is_name, verify_in}
 use Rattle.vk_words.specs.Table.{commands, row_of}
 use Rattle.vk_effect.specs.Effects.{Outside, outside, stores}
 use Rattle.vk_audit.specs.Statuses.{AcceptsTwoFiles, IsExtracted, PutsText}
@@ -36,20 +36,31 @@ five file challenge reply other second = record {
 abbrev name_if : Bool → List ℕ → Option (List ℕ)
 name_if is word = if is then Some word else None
 
+-- each is a name, or there is none of what they make
+abbrev attempt_if : (a b : Bool) → (challenge reply : List ℕ) → Option AttemptWords
+attempt_if a b challenge reply =
+    name_if a challenge >>? λ challenge.
+    name_if b reply >>? λ reply.
+    Some (record { challenge = challenge; reply = reply })
+
+abbrev verify_if : (a b c : Bool) → (file challenge reply : List ℕ) → Option VerifyWords
+verify_if a b c file challenge reply =
+    name_if a file >>? λ board.
+    attempt_if b c challenge reply >>? λ attempt.
+    Some (record { board = board; attempt = attempt })
+
+abbrev extract_if : (a b c d e : Bool) → (file challenge reply other second : List ℕ)
+    → Option ExtractWords
+extract_if a b c d e file challenge reply other second =
+    verify_if a b c file challenge reply >>? λ names.
+    attempt_if d e other second >>? λ second.
+    Some (record { board = names.board; first = names.attempt; second = second })
+
 -- the command of five words, by whether each is a name
 abbrev command_if : (ExtractWords → CommandWords) → (a b c d e : Bool)
     → (file challenge reply other second : List ℕ) → Option CommandWords
 command_if command a b c d e file challenge reply other second =
-    option_map command
-    (((name_if a file >>? λ board.
-    ((name_if b challenge >>? λ challenge.
-    name_if c reply >>? λ reply.
-    Some (record { challenge = challenge; reply = reply })) >>? λ attempt.
-    Some (record { board = board; attempt = attempt }))) >>? λ names.
-    ((name_if d other >>? λ challenge.
-    name_if e second >>? λ reply.
-    Some (record { challenge = challenge; reply = reply })) >>? λ second.
-    Some (record { board = names.board; first = names.attempt; second = second }))))
+    option_map command (extract_if a b c d e file challenge reply other second)
 
 settled : (command : ExtractWords → CommandWords) (a b c d e : Bool)
     (file challenge reply other second : List ℕ)
@@ -94,7 +105,7 @@ module _ (file challenge reply other second : List ℕ) where
   claim_extract_words = refl
 
   -- words that begin so are no command, or this one
-  WordsAre : List ℕ → (ExtractWords → CommandWords) → Type 0
+  abbrev WordsAre : List ℕ → (ExtractWords → CommandWords) → Type 0
   WordsAre verb command = command_words (six verb) ≡ command_of command
 
   words_settled : (words : List (List ℕ)) (verb : List ℕ) (command : ExtractWords → CommandWords)

@@ -68,17 +68,17 @@ fn act<S: Shelf, K: Keeper + Drop>(
     requires right { IsCommand command }
     requires single { script_in (Some (command_seen command)) ≡ None }
     ensures acts { IfSome (command_effect (S.held shelf.old) (K.ledger keeper.old)
-        (Some (command_seen command)))
+        (Some (command_seen command.entry)))
         (λ effect. Acts result effect (stores (S.held shelf.old) (K.ledger keeper.old))
         (stores (S.held shelf.new) (K.ledger keeper.new))) }
-    ensures free { CommandActsFreely (Some (command_seen command)) result
+    ensures free { CommandActsFreely (Some (command_seen command.entry)) result
         (stores (S.held shelf.old) (K.ledger keeper.old))
         (stores (S.held shelf.new) (K.ledger keeper.new)) }
     ensures files { IfOk result
-        (λ said. CommandLeaves (Some (command_seen command)) said.status (S.held shelf.old)
+        (λ said. CommandLeaves (Some (command_seen command.entry)) said.status (S.held shelf.old)
         (S.held shelf.new)) }
     ensures once { Modelled KeepsAnswers (K.ledger keeper.old) (K.ledger keeper.new) }
-    ensures keeper { LeavesKeeper K.ledger K.Keeper.faults (Some (command_seen command)) keeper.old
+    ensures keeper { LeavesKeeper K.ledger K.Keeper.faults (Some (command_seen command.entry)) keeper.old
         keeper.new }
     ensures causes { CausesTwo OutsideErr.Failed result (S.Shelf.faults shelf.old)
         (S.Shelf.faults shelf.new)
@@ -111,7 +111,7 @@ fn act<S: Shelf, K: Keeper + Drop>(
 
 /// The name of the script, where the command is a ceremony.
 fn script_of(command: Command<'_>) -> Option<&str>
-    ensures { option_map (λ name. name.now) result ≡ script_in (Some (command_seen command)) }
+    ensures { option_map (λ name. name.now) result ≡ script_in (Some (command_seen command.entry)) }
 {
     match command {
         Command::Ceremony(script) => Some(script),
@@ -139,19 +139,19 @@ fn perform_command<S: Shelf, K: Keeper + Drop, W: Sink>(
 ) -> Result<u8, OutsideErr>
     requires { IsCommand command }
     ensures ends { IfSome (work_of (S.held shelf.old) (K.ledger keeper.old)
-        (Some (command_seen command)))
+        (Some (command_seen command.entry)))
         (λ work. EndsWork result work
         (outside (stores (S.held shelf.old) (K.ledger keeper.old)) (W.taken out.old))
         (outside (stores (S.held shelf.new) (K.ledger keeper.new)) (W.taken out.new))) }
-    ensures free { CommandEndsFreely (Some (command_seen command)) result
+    ensures free { CommandEndsFreely (Some (command_seen command.entry)) result
         (outside (stores (S.held shelf.old) (K.ledger keeper.old)) (W.taken out.old))
         (outside (stores (S.held shelf.new) (K.ledger keeper.new)) (W.taken out.new)) }
     ensures end { IfOk result IsCommandEnd }
     ensures files { IfOk result
-        (λ status. LeavesBy (script_in (Some (command_seen command))) (Some (command_seen command))
+        (λ status. LeavesBy (script_in (Some (command_seen command.entry))) (Some (command_seen command.entry))
         status (S.held shelf.old) (S.held shelf.new)) }
     ensures once { Modelled KeepsAnswers (K.ledger keeper.old) (K.ledger keeper.new) }
-    ensures keeper { LeavesKeeper K.ledger K.Keeper.faults (Some (command_seen command)) keeper.old
+    ensures keeper { LeavesKeeper K.ledger K.Keeper.faults (Some (command_seen command.entry)) keeper.old
         keeper.new }
     ensures causes { CausesThree OutsideErr.Failed result (S.Shelf.faults shelf.old)
         (S.Shelf.faults shelf.new)
@@ -207,8 +207,8 @@ fn perform<S: Shelf, K: Keeper + Drop, W: Sink>(
             Ok(status)
         }
         None => {
-            let status = usage(out)?;
-            Ok(status)
+            usage(out)?;
+            Ok(2)
         }
     }
 }
