@@ -85,7 +85,7 @@ def is_taken_as_a_text(desk):
         desk.open().fill("announced", text=text)
         fields_are(taken(desk), True)
         assert desk.made.digest("announcement") in desk.run(
-            "return document.getElementById('announced-all').textContent"
+            "return document.getElementById('announced-told').textContent"
         )
 
 
