@@ -29,7 +29,7 @@ CLAUSES = ("sound", "complete", "headline", "claim_sound", "claim_complete", "cl
 TELLING = ("README.md", "docs/PROVED.md")
 
 # What soundness names nothing of: acceptance, circuits, the words of all commands.
-FOREIGN = ("vk_verifier/", "vk_row/", "vk_plan/", "vk_range/", "vk_words/")
+FOREIGN = ("vk_verifier/", "vk_judge/", "vk_row/", "vk_plan/", "vk_range/", "vk_words/")
 
 # The headings of the page, and what stands under each: crates, files, or one definition of a file.
 GROUPS = (

@@ -36,18 +36,18 @@ use Rattle.vk_ceremony.specs.Runs.{asked_in, orders_in}
 use Rattle.vk_ceremony.proofs.Following.{ledger_by, ledger_left, order_told}
 use Rattle.vk_ceremony.proofs.Performing.{act_of, ceremony_performs, command_performs}
 use Rattle.vk_ceremony.proofs.Standing.{act_same, act_steps, is_act_within, keeps_within, orders_are, performs_keeps, performs_right, right_within}
-use Rattle.vk_sample.specs.Auctions.{DrySeed, auction_of}
+use Rattle.vk_sample_parts.specs.Auctions.{DrySeed, auction_of}
 use Rattle.vk_sample.specs.Samples.{effect_by, sample_on}
 use Rattle.vk_job.specs.Proofs.{ProofValue}
 use Rattle.vk_report.specs.declared.sample.SampleCase.{SampleCase}
-use Rattle.vk_claim_sample.specs.Claims.{claim_case, numbers_of, proof_by}
+use Rattle.vk_claims.specs.Claims.{claim_case, numbers_of, proof_by}
 use Rattle.vk_words.specs.declared.claim.ClaimKind.{ClaimKind}
 use Rattle.vk_words.specs.declared.claim.ClaimKind.TheVariants.{Uniform, Matching}
 use Rattle.vk_words.specs.Coins.{CoinWords}
 use Rattle.vk_words.specs.Coins as coins
 use Rattle.vk_coins.specs.Deeds.{coin_on}
-use Rattle.vk_claim_sample.specs.ClaimSamples.{EndsFreely, claim_sample_on, effect_with}
-use Rattle.vk_claim_sample.specs.ClaimSamples as claimed
+use Rattle.vk_claims.specs.ClaimSamples.{EndsFreely, claim_sample_on, effect_with}
+use Rattle.vk_claims.specs.ClaimSamples as claimed
 use Rattle.vk_app.specs.Auctions.{CommandIsDone, KeepsToSteps, PerformsAt, PublishesBoard, PublishesReply, Serves, ServesHouse, orders_of, input_fault}
 use Rattle.vk_app.specs.Commands.{Command, CommandEndsFreely, EndsWork, Script, Work, command_effect, work_of, work_on}
 use Rattle.vk_app.specs.Sealing.{seal_on}

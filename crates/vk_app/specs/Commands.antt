@@ -18,7 +18,7 @@ use Rattle.vk_auctioneer.specs.Effects.{house_effect}
 use Rattle.vk_ceremony.specs.Ceremonies.{EndsAll, ceremony_on}
 use Rattle.vk_ceremony.specs.Ceremonies as ceremonies
 use Rattle.vk_sample.specs.Samples.{sample_on}
-use Rattle.vk_claim_sample.specs.ClaimSamples.{ActsFreely, EndsFreely, claim_sample_on}
+use Rattle.vk_claims.specs.ClaimSamples.{ActsFreely, EndsFreely, claim_sample_on}
 use Rattle.vk_app.specs.Sealing.{seal_on}
 
 -- ---- words that are no command

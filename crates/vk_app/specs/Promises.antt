@@ -23,7 +23,7 @@ use Rattle.vk_audit.specs.Statuses.{AcceptsTwoFiles, BindsSecret, IsExtracted, I
 use Rattle.vk_claims.specs.Statuses.{AcceptsTwoClaims, IsClaimExtracted, IsClaimVerified, IsSameClaim, TellsClaimExtraction, TellsClaimVerdict}
 use Rattle.vk_claim.specs.declared.front.ClaimFront.{ClaimFront}
 use Rattle.vk_claims.specs.Soundness.{BeginsWithClaim, TellsValues}
-use Rattle.vk_claim_sample.specs.ClaimSamples.{OfSomeMatching}
+use Rattle.vk_claims.specs.ClaimSamples.{OfSomeMatching}
 use Rattle.vk_auctioneer.specs.Leaving.{LeavesFiles}
 use Rattle.vk_ceremony.specs.Acts.{PerformsAll}
 use Rattle.vk_lines.specs.Forms.{fault_line}

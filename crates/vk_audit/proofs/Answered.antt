@@ -6,12 +6,12 @@ use Rattle.std.specs.FinMap.{get}
 use Rattle.vk_residue.specs.Steps.{◌>>=◌}
 use Rattle.vk_io.specs.Files.{Files}
 use Rattle.vk_lines.specs.Lines.{Rest}
-use Rattle.vk_verifier.specs.declared.answers.Part.{Part}
-use Rattle.vk_verifier.specs.declared.answers.Part.TheVariants as part
-use Rattle.vk_verifier.specs.declared.answers.VErr.{VErr}
-use Rattle.vk_verifier.specs.declared.answers.VErr.TheVariants.{Missing, TooLong, Failed, NoMemory}
-use Rattle.vk_verifier.specs.TwoBoards.{of_files}
-use Rattle.vk_verifier.specs.Verdicts.{begun_file, from_start, of_attempt}
+use Rattle.vk_judge.specs.declared.answers.Part.{Part}
+use Rattle.vk_judge.specs.declared.answers.Part.TheVariants as part
+use Rattle.vk_judge.specs.declared.answers.VErr.{VErr}
+use Rattle.vk_judge.specs.declared.answers.VErr.TheVariants.{Missing, TooLong, Failed, NoMemory}
+use Rattle.vk_judge.specs.Begun.{of_files}
+use Rattle.vk_judge.specs.Begun.{begun_file, from_start, of_attempt}
 use Rattle.vk_bids.specs.Headline.{HeldAttempt, IsHeldFile}
 use Rattle.vk_bids.proofs.Begun.{attempt_found, begun_found}
 use Rattle.vk_words.specs.Names.{ExtractWords, VerifyWords}

@@ -7,11 +7,11 @@ use Rattle.vk_residue.specs.Steps.{◌>>=◌}
 use Rattle.vk_io.specs.Files.{Files, Modelled}
 use Rattle.vk_lines.specs.Lines.{Rest}
 use Rattle.vk_seal.specs.Reading.{secret_at}
-use Rattle.vk_verifier.specs.declared.answers.Part.{Part}
-use Rattle.vk_verifier.specs.declared.answers.VErr.{VErr}
-use Rattle.vk_verifier.specs.declared.answers.VErr.TheVariants.{Missing, TooLong, Failed, NoMemory}
+use Rattle.vk_judge.specs.declared.answers.Part.{Part}
+use Rattle.vk_judge.specs.declared.answers.VErr.{VErr}
+use Rattle.vk_judge.specs.declared.answers.VErr.TheVariants.{Missing, TooLong, Failed, NoMemory}
 use Rattle.vk_verifier.specs.TwoValues.{front_in}
-use Rattle.vk_verifier.specs.Verdicts.{from_start}
+use Rattle.vk_judge.specs.Begun.{from_start}
 use Rattle.vk_bids.specs.Extraction.{Extraction}
 use Rattle.vk_bids.specs.declared.extraction.Extraction.TheVariants as extraction
 use Rattle.vk_bids.specs.declared.confrontation.Confrontation.{Confrontation}

@@ -4,10 +4,10 @@ use Rattle.std.proofs.Common.{◌≡◌, ◌≢◌, ℕ, ◌<◌, Bool, true, fa
 use Rattle.std.specs.Prelude.{◌⊎◌}
 use Rattle.vk_residue.specs.Steps.{◌>>=◌}
 use Rattle.vk_io.specs.Files.{Files, Modelled}
-use Rattle.vk_verifier.specs.declared.answers.Part.{Part}
+use Rattle.vk_judge.specs.declared.answers.Part.{Part}
 use Rattle.vk_verifier.specs.declared.answers.BoardVerdict.{BoardVerdict}
 use Rattle.vk_verifier.specs.declared.answers.BoardVerdict.TheVariants as verdict
-use Rattle.vk_verifier.specs.declared.answers.VErr.{VErr}
+use Rattle.vk_judge.specs.declared.answers.VErr.{VErr}
 use Rattle.vk_verifier.specs.TwoBoards.{ahead_at, base_on, two_on}
 use Rattle.vk_bids.specs.declared.extraction.Extraction.{Extraction as ExtractionOf}
 use Rattle.vk_bids.specs.declared.extraction.Extraction.TheVariants.{Refused, Same, Clash, Bids}

@@ -10,14 +10,16 @@ use Rattle.vk_board.specs.declared.front.Front.{Front}
 use Rattle.vk_board.specs.Values.{AreSeals}
 use Rattle.vk_verifier.specs.declared.answers.BoardVerdict.{BoardVerdict}
 use Rattle.vk_verifier.specs.declared.answers.BoardVerdict.TheVariants as verdict
-use Rattle.vk_verifier.specs.declared.stage.Finding.{Finding}
-use Rattle.vk_verifier.specs.declared.stage.Finding.TheVariants as two
+use Rattle.vk_judge.specs.declared.stage.Finding.{Finding}
+use Rattle.vk_judge.specs.declared.stage.Finding.TheVariants as two
 use Rattle.vk_verifier.specs.Acceptance.{Accepts}
 use Rattle.vk_verifier.specs.Refusals.{VerdictHolds}
-use Rattle.vk_verifier.specs.Verdicts.{from_start, statement_of, verdict_of}
-use Rattle.vk_verifier.specs.Two.{accepted_of, same_bits}
+use Rattle.vk_judge.specs.Begun.{from_start}
+use Rattle.vk_verifier.specs.Verdicts.{statement_of, verdict_of}
+use Rattle.vk_judge.specs.Two.{accepted_of, same_bits}
 use Rattle.vk_verifier.specs.TwoBoards.{BoardBase, as_second, is_accepted, two_verdict}
-use Rattle.vk_verifier.specs.TwoLaw.{ahead_in, bits_in}
+use Rattle.vk_judge.specs.TwoLaw.{bits_in}
+use Rattle.vk_verifier.specs.TwoLaw.{ahead_in}
 use Rattle.vk_verifier.specs.TwoValues.{begun_in}
 use Rattle.vk_verifier.proofs.Verdicts.{verdict_holds, verdicts_exact}
 use Rattle.vk_verifier.proofs.TwoLaw.{found_in}

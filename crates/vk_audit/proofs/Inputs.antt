@@ -8,10 +8,10 @@ use Rattle.std.proofs.lemmas.Option.{same_Some}
 use Rattle.vk_residue.specs.Steps.{◌>>=◌}
 use Rattle.vk_io.specs.Files.{Files}
 use Rattle.vk_lines.specs.Lines.{Rest}
-use Rattle.vk_verifier.specs.declared.answers.Part.{Part}
-use Rattle.vk_verifier.specs.declared.answers.VErr.{VErr}
-use Rattle.vk_verifier.specs.declared.answers.VErr.TheVariants.{Missing, TooLong}
-use Rattle.vk_verifier.specs.Verdicts.{begun_file, from_start}
+use Rattle.vk_judge.specs.declared.answers.Part.{Part}
+use Rattle.vk_judge.specs.declared.answers.VErr.{VErr}
+use Rattle.vk_judge.specs.declared.answers.VErr.TheVariants.{Missing, TooLong}
+use Rattle.vk_judge.specs.Begun.{begun_file, from_start}
 use Rattle.vk_bids.proofs.Begun.{not_long}
 use Rattle.vk_audit.specs.Inputs.{CanBeRead, IsFirstUnread, IsLong, IsUnheld}
 

@@ -3,8 +3,8 @@
 use Rattle.std.proofs.Common.{◌≡◌, ◌≢◌, ℕ, ◌<◌, ◌≤◌, Bool, List, Option, Result, Ok, Err, refl, sym, ap, ◌∙◌, arith}
 use Rattle.vk_io.specs.Files.{Files}
 use Rattle.vk_commit.specs.Commitment.{TwoOpeningsSeen}
-use Rattle.vk_verifier.specs.declared.answers.VErr.{VErr}
-use Rattle.vk_verifier.specs.declared.answers.VErr.TheVariants.{Missing, TooLong, Failed, NoMemory}
+use Rattle.vk_judge.specs.declared.answers.VErr.{VErr}
+use Rattle.vk_judge.specs.declared.answers.VErr.TheVariants.{Missing, TooLong, Failed, NoMemory}
 use Rattle.vk_bids.specs.declared.extraction.Extraction.{Extraction}
 use Rattle.vk_bids.specs.declared.extraction.Extraction.TheVariants.{Refused, Same, Clash, Bids}
 use Rattle.vk_words.specs.Names.{ExtractWords}

@@ -2,10 +2,10 @@
 use Rattle.std.proofs.Common.{◌≡◌, ◌≢◌, ℕ, ◌<◌, ◌≤◌, Bool, false, List, Some, Result, Ok, Err, refl, ap, subst, ◌∙◌, arith}
 use Rattle.vk_io.specs.Files.{Files}
 use Rattle.vk_lines.specs.Lines.{Rest}
-use Rattle.vk_verifier.specs.declared.answers.Part.{Part}
+use Rattle.vk_judge.specs.declared.answers.Part.{Part}
 use Rattle.vk_verifier.specs.declared.answers.BoardVerdict.{BoardVerdict}
 use Rattle.vk_verifier.specs.declared.answers.BoardVerdict.TheVariants as verdict
-use Rattle.vk_verifier.specs.declared.answers.VErr.{VErr}
+use Rattle.vk_judge.specs.declared.answers.VErr.{VErr}
 use Rattle.vk_verifier.specs.Verdicts.{judged, verdict_by, verdict_of, verdict_on}
 use Rattle.vk_verifier.proofs.Verdicts.{verdict_holds, verdicts_exact}
 use Rattle.vk_bids.specs.Headline.{HeldAttempt, IsHeldFile}

@@ -1,6 +1,6 @@
 -- What is said of what two replies to a board come to.
 use Rattle.vk_io.specs.Files.{Files}
-use Rattle.vk_verifier.specs.declared.named.TwoReplies.{TwoReplies}
+use Rattle.vk_judge.specs.declared.named.TwoReplies.{TwoReplies}
 use Rattle.vk_bids.specs.declared.extraction.Extraction.TheVariants.{Refused, Same, Clash, Bids}
 use Rattle.vk_bids.specs.Extraction.{Extraction, extraction_on}
 use Rattle.vk_bids.specs.Texts.{clash_text, extraction_text}

@@ -3,12 +3,12 @@ use Rattle.std.specs.Prelude.{ℕ, Bool, false, true, if◌then◌else◌, List,
 use Rattle.vk_io.specs.Files.{Files}
 use Rattle.vk_wire.specs.declared.wire.WireFault.{WireFault}
 use Rattle.vk_wire.specs.declared.wire.WireFault.TheVariants.{Form, Digest, NotASet}
-use Rattle.vk_verifier.specs.declared.answers.Part.{Part}
-use Rattle.vk_verifier.specs.declared.answers.Part.TheVariants.{Board, Challenge, Reply, SecondChallenge, SecondReply}
+use Rattle.vk_judge.specs.declared.answers.Part.{Part}
+use Rattle.vk_judge.specs.declared.answers.Part.TheVariants.{Board, Challenge, Reply, SecondChallenge, SecondReply}
 use Rattle.vk_verifier.specs.declared.answers.BoardVerdict.{BoardVerdict}
 use Rattle.vk_verifier.specs.declared.answers.BoardVerdict.TheVariants.{Accepted, Malformed, Price, Winner, Lanes, Wire, Row}
-use Rattle.vk_verifier.specs.declared.answers.VErr.{VErr}
-use Rattle.vk_verifier.specs.declared.answers.VErr.TheVariants.{Missing, TooLong, Failed, NoMemory}
+use Rattle.vk_judge.specs.declared.answers.VErr.{VErr}
+use Rattle.vk_judge.specs.declared.answers.VErr.TheVariants.{Missing, TooLong, Failed, NoMemory}
 use Rattle.vk_verifier.specs.Verdicts.{verdict_on}
 use Rattle.vk_words.specs.Names.{ExtractWords, VerifyWords}
 use Rattle.vk_effect.specs.Effects.{SaidValue}

@@ -4,7 +4,7 @@ ghost use Rattle.std.specs.Prelude.{◌≡◌, IfSome, IsErrOf};
 ghost use Rattle.vk_io.specs.Reads.{OnlyReads};
 ghost use Rattle.vk_lines.specs.Gives.{Gives};
 ghost use Rattle.vk_bids.specs.Confrontation.{fault_of};
-ghost use Rattle.vk_verifier.specs.Wanting.{MemoryWasWanting};
+ghost use Rattle.vk_judge.specs.Wanting.{MemoryWasWanting};
 ghost use Rattle.vk_words.specs.Names.{confront_seen, extract_seen, verify_seen};
 ghost use Rattle.vk_audit.specs.Audits.{Says, audit_said, audit_seen};
 ghost use Rattle.vk_audit.specs.Confrontations.{confrontation_in};
@@ -21,7 +21,8 @@ use vk_bids::{ConfrontErr, Confrontation, SecretAndReplies, TwoReplies, confront
 use vk_effect::Said;
 use vk_io::{OutsideErr, Shelf};
 use vk_report::read_report;
-use vk_verifier::{VErr, verdict};
+use vk_judge::VErr;
+use vk_verifier::verdict;
 use vk_words::{ConfrontNames, ExtractNames, VerifyNames};
 
 /// What is to be audited: the names of the files.
@@ -92,7 +93,7 @@ pub fn audit<S: Shelf>(
 }
 
 /// What is said of one reply.
-#[tactic(auto, using(vk_verifier::specs::Wanting::memory_was_wanting))]
+#[tactic(auto, using(vk_judge::specs::Wanting::memory_was_wanting))]
 fn verified<S: Shelf>(
     alloc: Global,
     shelf: &mut S,
@@ -113,7 +114,7 @@ fn verified<S: Shelf>(
 }
 
 /// What is said of a board alone.
-#[tactic(auto, using(vk_verifier::specs::Wanting::memory_was_wanting))]
+#[tactic(auto, using(vk_judge::specs::Wanting::memory_was_wanting))]
 fn report_told<S: Shelf>(alloc: Global, shelf: &mut S, board: &str) -> Result<Said, OutsideErr>
     ensures said { Says (S.held shelf.old) result (λ files. report_said files board.now) }
     ensures wanting { IsErrOf result OutsideErr.NoMemory → MemoryWasWanting }

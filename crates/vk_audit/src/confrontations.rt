@@ -8,7 +8,7 @@ ghost use Rattle.vk_io.specs.Faults.{Causes};
 ghost use Rattle.vk_lines.specs.Gives.{Gives};
 ghost use Rattle.vk_bids.specs.declared.confrontation.ConfrontErr.{ConfrontErr};
 ghost use Rattle.vk_bids.specs.declared.confrontation.Confrontation.{Confrontation};
-ghost use Rattle.vk_verifier.specs.Wanting.{MemoryWasWanting};
+ghost use Rattle.vk_judge.specs.Wanting.{MemoryWasWanting};
 ghost use Rattle.vk_bids.specs.Confrontation.{fault_of};
 ghost use Rattle.vk_bids.specs.ConfrontTexts.{confrontation_text};
 ghost use Rattle.vk_bids.specs.Texts.{clash_text};
@@ -21,7 +21,7 @@ use vk_bids::{ConfrontErr, Confrontation, confrontation_line};
 use vk_effect::{Said, malformed, missing, too_long};
 use vk_io::{OutsideErr, Shelf};
 use vk_residue::NoMemory;
-use vk_verifier::VErr;
+use vk_judge::VErr;
 use vk_words::ConfrontNames;
 
 /// The line of a confrontation, with that status.
@@ -86,7 +86,7 @@ pub fn confront_unread(
 
 /// What is said of what the files came to, or of the first that is missing or too long. A failure
 /// is handed on.
-#[tactic(auto, using(vk_verifier::specs::Wanting::memory_was_wanting))]
+#[tactic(auto, using(vk_judge::specs::Wanting::memory_was_wanting))]
 pub fn confront_answered(
     alloc: Global,
     names: &ConfrontNames<'_>,

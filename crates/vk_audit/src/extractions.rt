@@ -4,9 +4,9 @@ ghost use Rattle.std.specs.Prelude.{◌≡◌, ℕ, IfOk, IsErr, IsErrOf, Ok, Re
 ghost use Rattle.vk_commit.specs.Commitment.{TwoOpeningsSeen};
 ghost use Rattle.vk_io.specs.Faults.{Causes};
 ghost use Rattle.vk_lines.specs.Gives.{Gives};
-ghost use Rattle.vk_verifier.specs.declared.answers.VErr.{VErr};
-ghost use Rattle.vk_verifier.specs.Verdicts.{unread_file};
-ghost use Rattle.vk_verifier.specs.Wanting.{MemoryWasWanting};
+ghost use Rattle.vk_judge.specs.declared.answers.VErr.{VErr};
+ghost use Rattle.vk_judge.specs.Begun.{unread_file};
+ghost use Rattle.vk_judge.specs.Wanting.{MemoryWasWanting};
 ghost use Rattle.vk_bids.specs.Extraction.{Extraction as BoardExtraction};
 ghost use Rattle.vk_bids.specs.Texts.{clash_text};
 ghost use Rattle.vk_words.specs.Names.{extract_seen};
@@ -19,12 +19,12 @@ use vk_bids::{Extraction, clash_line, extraction_lines};
 use vk_effect::Said;
 use vk_io::OutsideErr;
 use vk_residue::NoMemory;
-use vk_verifier::VErr;
+use vk_judge::VErr;
 use vk_words::ExtractNames;
 
 /// What is said of a reply that isn't accepted, or of what two accepted replies come to. A clash
 /// takes no memory.
-#[tactic(auto, using(vk_verifier::specs::Wanting::memory_was_wanting))]
+#[tactic(auto, using(vk_judge::specs::Wanting::memory_was_wanting))]
 pub fn extracted(
     alloc: Global,
     names: &ExtractNames<'_>,

@@ -2,7 +2,7 @@
 
 ghost use Rattle.std.specs.Prelude.{◌≡◌, ℕ, IfOk, IsErrOf, IsOk, OnOk, Err};
 ghost use Rattle.vk_io.specs.Faults.{Causes};
-ghost use Rattle.vk_verifier.specs.Wanting.{MemoryWasWanting};
+ghost use Rattle.vk_judge.specs.Wanting.{MemoryWasWanting};
 ghost use Rattle.vk_words.specs.Names.{extract_seen};
 ghost use Rattle.vk_effect.specs.NamedFiles.{refused_said};
 ghost use Rattle.vk_audit.specs.Verdicts.{IsOfFile, fault_text, judged_said, name_of, reply_of, row_cause, same_said, unread_said, wire_cause};
@@ -12,7 +12,8 @@ use vk_effect::{Said, malformed, missing, refused, too_long};
 use vk_io::OutsideErr;
 use vk_residue::NoMemory;
 use vk_text::ShortText;
-use vk_verifier::{BoardVerdict, Part, VErr};
+use vk_judge::{Part, VErr};
+use vk_verifier::BoardVerdict;
 use vk_wire::WireFault;
 use vk_words::ExtractNames;
 
@@ -112,7 +113,7 @@ pub fn same_challenge() -> Said
 
 /// What is said of the first file that is missing or too long, so that there is no verdict. A
 /// failure is handed on.
-#[tactic(auto, using(vk_verifier::specs::Wanting::memory_was_wanting))]
+#[tactic(auto, using(vk_judge::specs::Wanting::memory_was_wanting))]
 pub fn unread(alloc: Global, names: &ExtractNames<'_>, fault: VErr) -> Result<Said, OutsideErr>
     ensures said { IfOk result (λ said. said ≡ unread_said (extract_seen names.now) fault) }
     ensures file { OnOk result (IsOfFile fault) }

@@ -5,12 +5,12 @@ use Rattle.std.proofs.lemmas.Bool.Decides.{nat_tests}
 use Rattle.vk_residue.specs.Steps.{◌>>=◌}
 use Rattle.vk_io.specs.Files.{Files}
 use Rattle.vk_lines.specs.Lines.{Rest}
-use Rattle.vk_verifier.specs.declared.answers.Part.{Part}
-use Rattle.vk_verifier.specs.declared.answers.Part.TheVariants as part
-use Rattle.vk_verifier.specs.declared.answers.VErr.{VErr}
-use Rattle.vk_verifier.specs.declared.answers.VErr.TheVariants.{TooLong}
-use Rattle.vk_verifier.specs.TwoBoards.{of_files}
-use Rattle.vk_verifier.specs.Verdicts.{begun_file, from_start}
+use Rattle.vk_judge.specs.declared.answers.Part.{Part}
+use Rattle.vk_judge.specs.declared.answers.Part.TheVariants as part
+use Rattle.vk_judge.specs.declared.answers.VErr.{VErr}
+use Rattle.vk_judge.specs.declared.answers.VErr.TheVariants.{TooLong}
+use Rattle.vk_judge.specs.Begun.{of_files}
+use Rattle.vk_judge.specs.Begun.{begun_file, from_start}
 use Rattle.vk_bids.specs.Headline.{HeldAttempt, HeldFiles, IsHeldFile}
 
 -- the file is held, and what comes next goes from the start of its bytes

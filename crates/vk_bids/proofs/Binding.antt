@@ -28,7 +28,7 @@ use Rattle.vk_board.specs.declared.board.SealLines.{SealLines}
 use Rattle.vk_board.specs.declared.front.Front.{Front}
 use Rattle.vk_extractor.specs.Confronting.{secret_com, secret_opening}
 use Rattle.vk_verifier.specs.TwoValues.{front_in}
-use Rattle.vk_verifier.specs.Verdicts.{from_start}
+use Rattle.vk_judge.specs.Begun.{from_start}
 use Rattle.vk_bids.specs.declared.bids.LaneBids.{LaneBids}
 use Rattle.vk_bids.specs.declared.bids.OpenedBid.{OpenedBid}
 use Rattle.vk_bids.specs.declared.confrontation.Confrontation.TheVariants as malformed

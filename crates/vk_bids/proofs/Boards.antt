@@ -9,18 +9,19 @@ use Rattle.vk_commit.specs.Commitment.{TwoOpeningsSeen}
 use Rattle.vk_board.specs.declared.front.Front.{Front}
 use Rattle.vk_board.specs.Fronts.{IsFront}
 use Rattle.vk_verifier.specs.declared.answers.BoardVerdict.{BoardVerdict}
-use Rattle.vk_verifier.specs.declared.answers.Fault.{Fault}
-use Rattle.vk_verifier.specs.declared.answers.VErr.{VErr}
-use Rattle.vk_verifier.specs.declared.answers.VErr.TheVariants.{Missing, TooLong, Failed, NoMemory}
-use Rattle.vk_verifier.specs.declared.stage.Base.{Base}
-use Rattle.vk_verifier.specs.declared.stage.Finding.{Finding}
-use Rattle.vk_verifier.specs.declared.stage.Finding.TheVariants as ends
-use Rattle.vk_verifier.specs.declared.stage.TwoLane.{TwoLane}
-use Rattle.vk_verifier.specs.Statement.{StatementValue}
-use Rattle.vk_verifier.specs.Verdicts.{statement_of, unread_file}
-use Rattle.vk_verifier.specs.Two.{Ahead}
+use Rattle.vk_judge.specs.declared.answers.Fault.{Fault}
+use Rattle.vk_judge.specs.declared.answers.VErr.{VErr}
+use Rattle.vk_judge.specs.declared.answers.VErr.TheVariants.{Missing, TooLong, Failed, NoMemory}
+use Rattle.vk_judge.specs.declared.stage.Base.{Base}
+use Rattle.vk_judge.specs.declared.stage.Finding.{Finding}
+use Rattle.vk_judge.specs.declared.stage.Finding.TheVariants as ends
+use Rattle.vk_judge.specs.declared.stage.TwoLane.{TwoLane}
+use Rattle.vk_judge.specs.Statement.{StatementValue}
+use Rattle.vk_judge.specs.Begun.{unread_file}
+use Rattle.vk_verifier.specs.Verdicts.{statement_of}
+use Rattle.vk_judge.specs.Two.{Ahead}
 use Rattle.vk_verifier.specs.TwoBoards.{BoardBase, as_ahead, as_two, base_on, two_on, with_front}
-use Rattle.vk_verifier.proofs.Steps.{bind_found}
+use Rattle.vk_judge.proofs.Steps.{bind_found}
 use Rattle.vk_bids.specs.declared.bids.LaneBids.{LaneBids}
 use Rattle.vk_bids.specs.declared.extraction.Extraction.TheVariants.{Refused, Same, Clash, Bids}
 use Rattle.vk_bids.specs.declared.lane_extraction.OpenedLanes.{OpenedLanes}

@@ -5,9 +5,9 @@ use Rattle.vk_residue.specs.Steps.{◌>>=◌}
 use Rattle.vk_io.specs.Files.{Files}
 use Rattle.vk_lines.specs.Lines.{Rest}
 use Rattle.vk_seal.specs.Reading.{secret_at}
-use Rattle.vk_verifier.specs.declared.answers.VErr.{VErr}
-use Rattle.vk_verifier.specs.Verdicts.{from_start}
-use Rattle.vk_verifier.proofs.Steps.{bind_ok, value_same}
+use Rattle.vk_judge.specs.declared.answers.VErr.{VErr}
+use Rattle.vk_judge.specs.Begun.{from_start}
+use Rattle.vk_judge.proofs.Steps.{bind_ok, value_same}
 use Rattle.vk_bids.specs.declared.confrontation.ConfrontErr.{ConfrontErr}
 use Rattle.vk_bids.specs.declared.confrontation.ConfrontErr.TheVariants.{TooLongSecret}
 use Rattle.vk_bids.specs.declared.confrontation.Confrontation.{Confrontation}

@@ -8,9 +8,9 @@ use Rattle.vk_lines.specs.Gives.{Refuses, Gives}
 use Rattle.vk_lines.specs.Lines.{Rest}
 use Rattle.vk_seal.specs.Reading.{secret_at}
 use Rattle.vk_seal.specs.declared.secret.Secret.{Secret}
-use Rattle.vk_verifier.specs.declared.answers.VErr.{VErr}
-use Rattle.vk_verifier.specs.declared.answers.VErr.TheVariants as verr
-use Rattle.vk_verifier.specs.Verdicts.{unread_file}
+use Rattle.vk_judge.specs.declared.answers.VErr.{VErr}
+use Rattle.vk_judge.specs.declared.answers.VErr.TheVariants as verr
+use Rattle.vk_judge.specs.Begun.{unread_file}
 use Rattle.vk_bids.specs.declared.confrontation.ConfrontErr.{ConfrontErr}
 use Rattle.vk_bids.specs.declared.confrontation.ConfrontErr.TheVariants.{Unread}
 use Rattle.vk_bids.specs.declared.confrontation.Confrontation.{Confrontation}

@@ -17,8 +17,8 @@ use Rattle.vk_board.specs.Reading.{seats_of}
 use Rattle.vk_extractor.specs.Clash.{clash_of_lane}
 use Rattle.vk_extractor.specs.Laws.{AreOfLane}
 use Rattle.vk_extractor.proofs.Clashes.{clash_opens}
-use Rattle.vk_verifier.specs.declared.stage.TwoLane.{TwoLane}
-use Rattle.vk_verifier.specs.Statement.{StatementValue, IsStatement}
+use Rattle.vk_judge.specs.declared.stage.TwoLane.{TwoLane}
+use Rattle.vk_judge.specs.Statement.{StatementValue, IsStatement}
 use Rattle.vk_bids.specs.declared.bids.LaneBids.{LaneBids}
 use Rattle.vk_bids.specs.Bids.{opened_bids}
 use Rattle.vk_bids.specs.Gathering.{bids_by, lane_by, lane_found, shown_for, lane_shown, added, gathered_from}

@@ -13,21 +13,25 @@ use Rattle.vk_extractor.proofs.FirstClash.{all_agree, clash_found, first_of_clas
 use Rattle.vk_board.specs.declared.board.LaneLines.{LaneLines}
 use Rattle.vk_board.specs.declared.front.Front.{Front}
 use Rattle.vk_verifier.specs.declared.answers.BoardVerdict.{BoardVerdict}
-use Rattle.vk_verifier.specs.declared.answers.Fault.{Fault}
-use Rattle.vk_verifier.specs.declared.stage.Base.{Base}
-use Rattle.vk_verifier.specs.declared.stage.Finding.{Finding}
-use Rattle.vk_verifier.specs.declared.stage.Finding.TheVariants as ends
-use Rattle.vk_verifier.specs.declared.stage.TwoLane.{TwoLane}
-use Rattle.vk_verifier.specs.Statement.{StatementValue, IsStatement}
-use Rattle.vk_verifier.specs.Behind.{case_of}
-use Rattle.vk_verifier.specs.Verdicts.{from_start, statement_of}
-use Rattle.vk_verifier.specs.Acceptance.{Accepts, bit_of, no_lines}
-use Rattle.vk_verifier.specs.Two.{BothAreAccepted, accepted_of, ahead_behind, base_behind, base_in, same_bit, same_bits}
+use Rattle.vk_judge.specs.declared.answers.Fault.{Fault}
+use Rattle.vk_judge.specs.declared.stage.Base.{Base}
+use Rattle.vk_judge.specs.declared.stage.Finding.{Finding}
+use Rattle.vk_judge.specs.declared.stage.Finding.TheVariants as ends
+use Rattle.vk_judge.specs.declared.stage.TwoLane.{TwoLane}
+use Rattle.vk_judge.specs.Statement.{StatementValue, IsStatement}
+use Rattle.vk_judge.specs.Behind.{case_of}
+use Rattle.vk_judge.specs.Begun.{from_start}
+use Rattle.vk_verifier.specs.Verdicts.{statement_of}
+use Rattle.vk_judge.specs.Acceptance.{bit_of, no_lines}
+use Rattle.vk_verifier.specs.Acceptance.{Accepts}
+use Rattle.vk_judge.specs.Two.{BothAreAccepted, accepted_of, ahead_behind, base_behind, base_in, same_bit, same_bits}
 use Rattle.vk_verifier.specs.TwoBoards.{BoardBase}
 use Rattle.vk_verifier.specs.TwoLaw.{ahead_in}
-use Rattle.vk_verifier.specs.TwoValues.{AreOfOneBoard, base_with, begun_in, bits_of, board_with, front_in, shown_behind, two_lane_in}
+use Rattle.vk_judge.specs.TwoValues.{base_with, shown_behind}
+use Rattle.vk_verifier.specs.TwoValues.{AreOfOneBoard, begun_in, bits_of, board_with, front_in, two_lane_in}
 use Rattle.vk_verifier.proofs.Plans.{statement_right}
-use Rattle.vk_verifier.proofs.TwoValues.{accepted_behind_give, accepted_give, only_accepted_behind, only_accepted_give}
+use Rattle.vk_judge.proofs.TwoValues.{accepted_behind_give, only_accepted_behind}
+use Rattle.vk_verifier.proofs.TwoValues.{accepted_give, only_accepted_give}
 use Rattle.vk_bids.specs.declared.bids.LaneBids.{LaneBids}
 use Rattle.vk_bids.specs.declared.extraction.Extraction.TheVariants.{Same}
 use Rattle.vk_bids.specs.Extraction.{Extraction, extraction_in, shown_on}

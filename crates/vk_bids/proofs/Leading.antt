@@ -2,13 +2,13 @@
 use Rattle.std.proofs.Common.{◌≡◌, ℕ, ◌+◌, List, [], Option, Some, None, IfSome, Result, Ok, refl, sym, ap, subst, ◌∙◌}
 use Rattle.vk_io.specs.Files.{Files}
 use Rattle.vk_commit.specs.Commitment.{TwoOpeningsSeen}
-use Rattle.vk_verifier.specs.declared.answers.Fault.{Fault}
-use Rattle.vk_verifier.specs.declared.stage.Base.{Base}
-use Rattle.vk_verifier.specs.declared.stage.Finding.{Finding}
-use Rattle.vk_verifier.specs.declared.stage.Finding.TheVariants as ends
-use Rattle.vk_verifier.specs.declared.stage.Stage.{Stage}
-use Rattle.vk_verifier.specs.declared.stage.TwoLane.{TwoLane}
-use Rattle.vk_verifier.specs.Two.{Ahead, GoesOn, ahead_of, finding_of}
+use Rattle.vk_judge.specs.declared.answers.Fault.{Fault}
+use Rattle.vk_judge.specs.declared.stage.Base.{Base}
+use Rattle.vk_judge.specs.declared.stage.Finding.{Finding}
+use Rattle.vk_judge.specs.declared.stage.Finding.TheVariants as ends
+use Rattle.vk_judge.specs.declared.stage.Stage.{Stage}
+use Rattle.vk_judge.specs.declared.stage.TwoLane.{TwoLane}
+use Rattle.vk_judge.specs.Two.{Ahead, GoesOn, ahead_of, finding_of}
 use Rattle.vk_bids.specs.declared.bids.LaneBids.{LaneBids}
 use Rattle.vk_bids.specs.Gathering.{added, gathered_from}
 use Rattle.vk_bids.specs.Extractions.{found_by, gathered_after}

@@ -3,12 +3,13 @@ use Rattle.std.proofs.Common.{◌≡◌, ℕ, List, Result, Ok, sym, ap, ◌∙�
 use Rattle.vk_residue.specs.Steps.{◌>>=◌}
 use Rattle.vk_io.specs.Files.{Files}
 use Rattle.vk_lines.specs.Lines.{Rest}
-use Rattle.vk_verifier.specs.declared.answers.VErr.{VErr}
+use Rattle.vk_judge.specs.declared.answers.VErr.{VErr}
 use Rattle.vk_verifier.specs.declared.answers.BoardVerdict.{BoardVerdict}
-use Rattle.vk_verifier.specs.Verdicts.{from_start}
-use Rattle.vk_verifier.specs.Two.{Ahead}
-use Rattle.vk_verifier.specs.TwoBoards.{ahead_at, base_at, base_on, of_files, two_on}
-use Rattle.vk_verifier.proofs.Steps.{bind_found, bind_ok, value_same}
+use Rattle.vk_judge.specs.Begun.{from_start}
+use Rattle.vk_judge.specs.Two.{Ahead}
+use Rattle.vk_judge.specs.Begun.{of_files}
+use Rattle.vk_verifier.specs.TwoBoards.{ahead_at, base_at, base_on, two_on}
+use Rattle.vk_judge.proofs.Steps.{bind_found, bind_ok, value_same}
 use Rattle.vk_bids.specs.Extraction.{Extraction, extraction_of, extraction_on}
 use Rattle.vk_bids.specs.Headline.{ComesOf, FilesAreExtracted, HeldFiles, extraction_of_held}
 use Rattle.vk_bids.proofs.Begun.{files_found, files_shown}

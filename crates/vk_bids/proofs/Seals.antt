@@ -16,9 +16,9 @@ use Rattle.vk_row.specs.Lanes.{HasCounts, IsAcceptedLane, place_in, no_digests, 
 use Rattle.vk_board.specs.declared.board.SealLines.{SealLines}
 use Rattle.vk_board.specs.declared.board.LaneLines.{LaneLines}
 use Rattle.vk_board.specs.Reading.{seats_of}
-use Rattle.vk_verifier.specs.Statement.{StatementValue, IsStatement}
-use Rattle.vk_verifier.specs.Behind.{case_of, input_coms}
-use Rattle.vk_verifier.proofs.Counts.{seals_have}
+use Rattle.vk_judge.specs.Statement.{StatementValue, IsStatement}
+use Rattle.vk_judge.specs.Behind.{case_of, input_coms}
+use Rattle.vk_judge.proofs.Counts.{seals_have}
 use Rattle.vk_bids.specs.Opening.{seal_place}
 
 -- what a wire without a weight shows is a half

@@ -24,8 +24,8 @@ use Rattle.vk_extractor.proofs.Clashes.{clash_opens}
 use Rattle.vk_extractor.proofs.Holding.{extracted_hold}
 use Rattle.vk_board.specs.declared.front.Front.{Front}
 use Rattle.vk_board.specs.Fronts.{IsFront}
-use Rattle.vk_verifier.specs.Statement.{StatementValue, IsStatement}
-use Rattle.vk_verifier.specs.Behind.{case_of}
+use Rattle.vk_judge.specs.Statement.{StatementValue, IsStatement}
+use Rattle.vk_judge.specs.Behind.{case_of}
 use Rattle.vk_verifier.specs.Verdicts.{numbers_in, statement_of}
 use Rattle.vk_verifier.proofs.Fronts.{front_case}
 use Rattle.vk_bids.specs.declared.bids.OpenedBid.{OpenedBid}

@@ -2,8 +2,8 @@
 use Rattle.std.proofs.Common.{◌≡◌, All, List, [], ◌++◌, Option, Some, None, IfSome, sym, subst, ◌∙◌}
 use Rattle.std.specs.Option.{option_to_list}
 use Rattle.std.proofs.lemmas.List.Elements.{All-nil, All-cons, All-append}
-use Rattle.vk_verifier.specs.Statement.{StatementValue}
-use Rattle.vk_verifier.specs.declared.stage.Base.{Base}
+use Rattle.vk_judge.specs.Statement.{StatementValue}
+use Rattle.vk_judge.specs.declared.stage.Base.{Base}
 use Rattle.vk_bids.specs.declared.bids.LaneBids.{LaneBids}
 use Rattle.vk_bids.specs.declared.extraction.Extraction.TheVariants.{Refused, Same, Clash, Bids}
 use Rattle.vk_bids.specs.LaneExtraction.{AreOf, AreOfBase, LaneExtraction}

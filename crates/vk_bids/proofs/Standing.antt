@@ -20,12 +20,12 @@ use Rattle.vk_extractor.specs.FirstClash.{IsClash}
 use Rattle.vk_board.specs.declared.board.SealLines.{SealLines}
 use Rattle.vk_board.specs.declared.board.LaneLines.{LaneLines}
 use Rattle.vk_board.specs.Texts.{com_text, lane_text, lanes_text, posted_text, seal_lines_text}
-use Rattle.vk_verifier.specs.Statement.{StatementValue, IsStatement}
-use Rattle.vk_verifier.specs.declared.stage.TwoLane.{TwoLane}
-use Rattle.vk_verifier.specs.Acceptance.{AcceptsBehind, file_text, no_lines}
-use Rattle.vk_verifier.specs.Behind.{case_of, input_coms}
-use Rattle.vk_verifier.specs.TwoValues.{case_behind}
-use Rattle.vk_verifier.proofs.Counts.{seals_have}
+use Rattle.vk_judge.specs.Statement.{StatementValue, IsStatement}
+use Rattle.vk_judge.specs.declared.stage.TwoLane.{TwoLane}
+use Rattle.vk_judge.specs.Acceptance.{AcceptsBehind, file_text, no_lines}
+use Rattle.vk_judge.specs.Behind.{case_of, input_coms}
+use Rattle.vk_judge.specs.TwoValues.{case_behind}
+use Rattle.vk_judge.proofs.Counts.{seals_have}
 use Rattle.vk_bids.specs.Gathering.{lane_shown}
 use Rattle.vk_bids.specs.Headline.{IsFirstClashOf, differing}
 use Rattle.vk_bids.specs.Soundness.{StandsInFile}

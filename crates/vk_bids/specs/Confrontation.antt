@@ -14,9 +14,9 @@ use Rattle.vk_board.specs.declared.board.Head.{Head}
 use Rattle.vk_board.specs.declared.board.SealLines.{SealLines}
 use Rattle.vk_extractor.specs.Clash.{or_else}
 use Rattle.vk_extractor.specs.Confronting.{OpensSecret, confronted}
-use Rattle.vk_verifier.specs.declared.answers.VErr.{VErr}
-use Rattle.vk_verifier.specs.declared.answers.VErr.TheVariants as verr
-use Rattle.vk_verifier.specs.Verdicts.{from_start}
+use Rattle.vk_judge.specs.declared.answers.VErr.{VErr}
+use Rattle.vk_judge.specs.declared.answers.VErr.TheVariants as verr
+use Rattle.vk_judge.specs.Begun.{from_start}
 use Rattle.vk_bids.specs.declared.bids.LaneBids.{LaneBids}
 use Rattle.vk_bids.specs.declared.bids.OpenedBid.{OpenedBid}
 use Rattle.vk_bids.specs.declared.confrontation.ConfrontErr.{ConfrontErr}

@@ -6,11 +6,11 @@ use Rattle.vk_io.specs.Files.{Files}
 use Rattle.vk_board.specs.declared.front.Front.{Front}
 use Rattle.vk_board.specs.Fronts.{IsFront}
 use Rattle.vk_verifier.specs.declared.answers.BoardVerdict.{BoardVerdict}
-use Rattle.vk_verifier.specs.declared.answers.VErr.{VErr}
-use Rattle.vk_verifier.specs.declared.named.TwoReplies.{TwoReplies}
-use Rattle.vk_verifier.specs.Statement.{StatementValue}
+use Rattle.vk_judge.specs.declared.answers.VErr.{VErr}
+use Rattle.vk_judge.specs.declared.named.TwoReplies.{TwoReplies}
+use Rattle.vk_judge.specs.Statement.{StatementValue}
 use Rattle.vk_verifier.specs.Verdicts.{as_verdict, statement_of}
-use Rattle.vk_verifier.specs.Two.{Ahead}
+use Rattle.vk_judge.specs.Two.{Ahead}
 use Rattle.vk_verifier.specs.TwoBoards.{BoardBase, base_on, two_on}
 use Rattle.vk_verifier.specs.TwoLaw.{ahead_in}
 use Rattle.vk_verifier.specs.TwoValues.{begun_in}

@@ -1,11 +1,11 @@
 -- What two replies come to, whatever is said of a refusal and whatever is kept of the bids.
 use Rattle.std.specs.Prelude.{List, [], Option, Some, None, Result, Ok, Err}
 use Rattle.vk_commit.specs.Commitment.{TwoOpeningsSeen}
-use Rattle.vk_verifier.specs.declared.stage.Finding.{Finding}
-use Rattle.vk_verifier.specs.declared.stage.Finding.TheVariants as ends
-use Rattle.vk_verifier.specs.declared.stage.TwoLane.{TwoLane}
-use Rattle.vk_verifier.specs.Statement.{StatementValue}
-use Rattle.vk_verifier.specs.Two.{Ahead}
+use Rattle.vk_judge.specs.declared.stage.Finding.{Finding}
+use Rattle.vk_judge.specs.declared.stage.Finding.TheVariants as ends
+use Rattle.vk_judge.specs.declared.stage.TwoLane.{TwoLane}
+use Rattle.vk_judge.specs.Statement.{StatementValue}
+use Rattle.vk_judge.specs.Two.{Ahead}
 use Rattle.vk_bids.specs.declared.bids.LaneBids.{LaneBids}
 use Rattle.vk_bids.specs.declared.extraction.Extraction.{Extraction}
 use Rattle.vk_bids.specs.declared.extraction.Extraction.TheVariants.{Refused, Same, Clash, Bids}

@@ -9,11 +9,13 @@ use Rattle.vk_io.specs.Files.{Files}
 use Rattle.vk_lines.specs.Lines.{Rest}
 use Rattle.vk_wire.specs.declared.wire.Shown.{Shown}
 use Rattle.vk_extractor.specs.FirstClash.{IsFirstClash, WireAgrees}
-use Rattle.vk_verifier.specs.declared.stage.TwoLane.{TwoLane}
-use Rattle.vk_verifier.specs.Statement.{StatementValue, IsStatement}
-use Rattle.vk_verifier.specs.Verdicts.{from_start}
-use Rattle.vk_verifier.specs.Acceptance.{Accepts, AcceptsBehind}
-use Rattle.vk_verifier.specs.TwoValues.{bits_of, front_in, two_lane_behind, two_lane_in}
+use Rattle.vk_judge.specs.declared.stage.TwoLane.{TwoLane}
+use Rattle.vk_judge.specs.Statement.{StatementValue, IsStatement}
+use Rattle.vk_judge.specs.Begun.{from_start}
+use Rattle.vk_judge.specs.Acceptance.{AcceptsBehind}
+use Rattle.vk_verifier.specs.Acceptance.{Accepts}
+use Rattle.vk_judge.specs.TwoValues.{two_lane_behind}
+use Rattle.vk_verifier.specs.TwoValues.{bits_of, front_in, two_lane_in}
 use Rattle.vk_bids.specs.declared.extraction.Extracted.{Extracted}
 use Rattle.vk_bids.specs.declared.extraction.Extraction.TheVariants.{Same}
 use Rattle.vk_bids.specs.declared.lane_extraction.OpenedLanes.{OpenedLanes}

@@ -3,11 +3,11 @@
 use Rattle.std.specs.Prelude.{◌≡◌, All, List, [], Option, Some, IfSome, IsSomeAnd, Result, Ok}
 use Rattle.vk_commit.specs.Commitment.{TwoOpeningsSeen}
 use Rattle.vk_lines.specs.Lines.{Rest}
-use Rattle.vk_verifier.specs.declared.answers.Fault.{Fault}
-use Rattle.vk_verifier.specs.declared.stage.Base.{Base}
-use Rattle.vk_verifier.specs.declared.stage.Finding.{Finding}
-use Rattle.vk_verifier.specs.Statement.{StatementValue, IsStatement}
-use Rattle.vk_verifier.specs.Two.{Ahead, ahead_behind, base_behind, base_in}
+use Rattle.vk_judge.specs.declared.answers.Fault.{Fault}
+use Rattle.vk_judge.specs.declared.stage.Base.{Base}
+use Rattle.vk_judge.specs.declared.stage.Finding.{Finding}
+use Rattle.vk_judge.specs.Statement.{StatementValue, IsStatement}
+use Rattle.vk_judge.specs.Two.{Ahead, ahead_behind, base_behind, base_in}
 use Rattle.vk_bids.specs.declared.bids.LaneBids.{LaneBids}
 use Rattle.vk_bids.specs.declared.extraction.Extraction.{Extraction}
 use Rattle.vk_bids.specs.declared.lane_extraction.OpenedLanes.{OpenedLanes}

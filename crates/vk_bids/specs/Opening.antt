@@ -16,8 +16,8 @@ use Rattle.vk_board.specs.Reading.{seats_of}
 use Rattle.vk_extractor.specs.Laws.{AreOfLane}
 use Rattle.vk_extractor.specs.declared.lane.LaneErr.{LaneErr}
 use Rattle.vk_extractor.specs.declared.lane.LaneErr.TheVariants.{Clash, NoMemory}
-use Rattle.vk_verifier.specs.Statement.{StatementValue}
-use Rattle.vk_verifier.specs.Behind.{case_of}
+use Rattle.vk_judge.specs.Statement.{StatementValue}
+use Rattle.vk_judge.specs.Behind.{case_of}
 use Rattle.vk_bids.specs.declared.bids.LaneBids.{LaneBids}
 use Rattle.vk_bids.specs.declared.bids.OpenedBid.{OpenedBid}
 

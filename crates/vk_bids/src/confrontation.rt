@@ -8,7 +8,7 @@ ghost use Rattle.vk_lines.specs.Lines.{OnlyReads, GivesReading, Rest, Starts, re
 ghost use Rattle.vk_seal.specs.Made.{seal_of};
 ghost use Rattle.vk_seal.specs.Values.{IsSecret};
 ghost use Rattle.vk_board.specs.Fronts.{IsFront};
-ghost use Rattle.vk_verifier.specs.Wanting.{MemoryWasWanting};
+ghost use Rattle.vk_judge.specs.Wanting.{MemoryWasWanting};
 ghost use Rattle.vk_bids.specs.Confrontation.{OpensSecretIn, Secret, board_seal, confrontation_named, confrontation_of, confronted_found, confronted_lane, confronted_lanes, fault_of, index_of_seat, match_of, matched_by, secret_at, secret_begun, secret_in};
 ghost use Rattle.vk_bids.specs.Extraction.{Shows};
 ghost use Rattle.vk_bids.specs.Outcome.{LaneShows};
@@ -21,7 +21,8 @@ use vk_commit::TwoOpenings;
 use vk_io::{OutsideErr, Shelf};
 use vk_lines::{Lines, ReadErr, StartErr};
 use vk_seal::{Mismatch, Seal, Secret, matches, read_secret};
-use vk_verifier::{BoardVerdict, TwoReplies, VErr};
+use vk_judge::{TwoReplies, VErr};
+use vk_verifier::BoardVerdict;
 
 /// The names of the files that a secret is confronted with, and its own.
 #[derive(Clone, Copy, Debug)]
@@ -82,7 +83,7 @@ impl From<VErr> for ConfrontErr {
 impl From<OutsideErr> for ConfrontErr {
     ghost use Rattle.std.specs.Prelude.{◌≡◌};
     ghost use Rattle.vk_io.specs.Faults.{told_as};
-    ghost use Rattle.vk_verifier.specs.declared.answers.VErr.TheVariants.{Failed, NoMemory};
+    ghost use Rattle.vk_judge.specs.declared.answers.VErr.TheVariants.{Failed, NoMemory};
     ghost use Rattle.vk_bids.specs.declared.confrontation.ConfrontErr.TheVariants.{Unread};
 
     ghost from_gives = { λ outside e. e ≡ Unread (told_as Failed NoMemory outside) };
@@ -119,7 +120,7 @@ pub fn confront<S: Shelf>(
 }
 
 /// Begins to read the secret's file.
-#[tactic(auto, using(vk_verifier::specs::Wanting::memory_was_wanting))]
+#[tactic(auto, using(vk_judge::specs::Wanting::memory_was_wanting))]
 fn begin_secret<S: Shelf>(alloc: Global, shelf: &mut S, name: &str) -> Result<Lines, ConfrontErr>
     ensures modelled { IfSome (S.held shelf.old) (λ files.
         Gives fault_of (λ lines. rest_of lines files) result
@@ -150,7 +151,7 @@ fn begun(started: Result<Lines, StartErr>) -> Result<Lines, ConfrontErr>
 }
 
 /// The secret, or the fault line of its file.
-#[tactic(auto, using(vk_verifier::specs::Wanting::memory_was_wanting))]
+#[tactic(auto, using(vk_judge::specs::Wanting::memory_was_wanting))]
 fn secret_of<S: Shelf>(
     alloc: Global,
     shelf: &mut S,

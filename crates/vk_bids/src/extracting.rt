@@ -15,7 +15,7 @@ use vk_extractor::{LaneErr, extract_lane};
 use vk_residue::NoMemory;
 use vk_row::LaneCase;
 use vk_seq::Seq;
-use vk_verifier::Statement;
+use vk_judge::Statement;
 use vk_wire::Shown;
 
 /// The values of the seals in the lane, counted from 1, from what was accepted for bit 0 and what

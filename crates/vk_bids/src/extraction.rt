@@ -3,11 +3,11 @@ ghost use Rattle.std.specs.Prelude.{◌≡◌, IfOk, IfSome, IsErrOf};
 ghost use Rattle.vk_io.specs.Reads.{OnlyReads};
 ghost use Rattle.vk_lines.specs.Gives.{Gives};
 ghost use Rattle.vk_board.specs.Fronts.{front_with};
-ghost use Rattle.vk_verifier.specs.Verdicts.{unread_file};
+ghost use Rattle.vk_judge.specs.Begun.{unread_file};
 ghost use Rattle.vk_verifier.specs.declared.two_boards.BoardStage.TheVariants.{Behind};
-ghost use Rattle.vk_verifier.specs.Two.{given_of};
+ghost use Rattle.vk_judge.specs.Two.{given_of};
 ghost use Rattle.vk_verifier.specs.TwoBoards.{IsBoardCourse, board_ahead, board_base, board_given};
-ghost use Rattle.vk_verifier.specs.Wanting.{MemoryWasWanting};
+ghost use Rattle.vk_judge.specs.Wanting.{MemoryWasWanting};
 ghost use Rattle.vk_bids.specs.Extraction.{AreOfFront, Shows, extraction_named, extraction_of, extraction_with};
 ghost use Rattle.vk_bids.specs.LaneExtraction.{OpensLanes};
 
@@ -18,7 +18,8 @@ use vk_board::{Front, Head};
 use vk_commit::TwoOpenings;
 use vk_io::{OutsideErr, Shelf};
 use vk_seq::Seq;
-use vk_verifier::{BoardCourse, BoardVerdict, TwoChecker, TwoReplies, VErr};
+use vk_judge::{TwoReplies, VErr};
+use vk_verifier::{BoardCourse, BoardVerdict, TwoChecker};
 
 /// The bids that two accepted replies give, and what stands on the board before its first lane.
 #[derive(Debug, Drop)]

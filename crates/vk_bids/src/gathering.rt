@@ -2,8 +2,8 @@
 ghost use Rattle.std.specs.Prelude.{◌≡◌, ◌≤◌, ◌++◌, Ok, Err, All, IfErr, IfOk, IfSome, IsErr, OnErr, OnOk, false, true};
 ghost use Rattle.std.specs.Option.{option_to_list};
 ghost use Rattle.vk_row.specs.Lanes.{IsAccepted};
-ghost use Rattle.vk_verifier.specs.Two.{IsTwoLane, base_of, given_of};
-ghost use Rattle.vk_verifier.specs.Wanting.{MemoryWasWanting};
+ghost use Rattle.vk_judge.specs.Two.{IsTwoLane, base_of, given_of};
+ghost use Rattle.vk_judge.specs.Wanting.{MemoryWasWanting};
 ghost use Rattle.vk_bids.specs.Gathering.{IsClashOf, IsLastLane, added, bids_of, lane_found};
 ghost use Rattle.vk_bids.specs.Opening.{IsCaseOf, LaneOpens};
 
@@ -15,7 +15,7 @@ use vk_extractor::LaneErr;
 use vk_residue::NoMemory;
 use vk_row::LaneCase;
 use vk_seq::Seq;
-use vk_verifier::{LaneChecker, Statement, TwoLane};
+use vk_judge::{LaneChecker, Statement, TwoLane};
 use vk_wire::Shown;
 
 /// The bids of the lanes so far, or the first clash.
@@ -52,7 +52,7 @@ pub fn with_lane(
 }
 
 /// With the bids of the lane, or its first clash, which is answered whatever memory there is.
-#[tactic(auto, using(vk_verifier::specs::Wanting::memory_was_wanting))]
+#[tactic(auto, using(vk_judge::specs::Wanting::memory_was_wanting))]
 fn with_more(
     alloc: Global,
     checker: &LaneChecker,

@@ -1,9 +1,9 @@
 // What two replies come to behind a front.
 ghost use Rattle.std.specs.Prelude.{◌≡◌, All, IfOk, IfSome, IsErrOf, IsSomeAnd};
 ghost use Rattle.vk_io.specs.Reads.{OnlyReads};
-ghost use Rattle.vk_verifier.specs.Statement.{IsStatement};
-ghost use Rattle.vk_verifier.specs.Two.{IsOver, ahead_of, base_of, finding_of, given_of, of_two};
-ghost use Rattle.vk_verifier.specs.Wanting.{MemoryWasWanting};
+ghost use Rattle.vk_judge.specs.Statement.{IsStatement};
+ghost use Rattle.vk_judge.specs.Two.{IsOver, ahead_of, base_of, finding_of, given_of, of_two};
+ghost use Rattle.vk_judge.specs.Wanting.{MemoryWasWanting};
 ghost use Rattle.vk_bids.specs.LaneExtraction.{AreOf, AreOfBase, ComesTo, OpensLanes, lane_extraction, lane_extraction_behind, opened_of};
 ghost use Rattle.vk_bids.specs.Extractions.{found_by, given_by};
 ghost use Rattle.vk_bids.specs.Opening.{LaneOpens};
@@ -14,7 +14,7 @@ use crate::gathering::{Gathered, with_lane};
 use std::alloc::Global;
 use vk_io::{OutsideErr, Shelf};
 use vk_seq::Seq;
-use vk_verifier::{Fault, Finding, LaneChecker, Statement, TwoAttempts};
+use vk_judge::{Fault, Finding, LaneChecker, Statement, TwoAttempts};
 
 /// What two accepted replies open behind a front.
 #[derive(Debug, Drop)]

@@ -2,11 +2,11 @@
 -- front.
 use Rattle.std.proofs.Common.{◌≡◌, false, Option, Some, None, IfSome, option_map, Ok, Err, refl, ap}
 use Rattle.vk_io.specs.Files.{Files}
-use Rattle.vk_verifier.specs.declared.stage.Finding.TheVariants.{Refused}
-use Rattle.vk_verifier.specs.declared.stage.Stage.{Stage}
-use Rattle.vk_verifier.specs.declared.stage.TwoLane.{TwoLane}
-use Rattle.vk_verifier.specs.Two.{GoesOn, ahead_of}
-use Rattle.vk_verifier.proofs.TwoBegun.{if_held}
+use Rattle.vk_judge.specs.declared.stage.Finding.TheVariants.{Refused}
+use Rattle.vk_judge.specs.declared.stage.Stage.{Stage}
+use Rattle.vk_judge.specs.declared.stage.TwoLane.{TwoLane}
+use Rattle.vk_judge.specs.Two.{GoesOn, ahead_of}
+use Rattle.vk_judge.proofs.Held.{if_held}
 use Rattle.vk_claim.specs.declared.head.ClaimHead.{ClaimHead}
 use Rattle.vk_claim.specs.declared.two.ClaimCourse.{ClaimCourse}
 use Rattle.vk_claim.specs.declared.verdict.ClaimVerdict.{ClaimVerdict}

@@ -2,15 +2,15 @@
 use Rattle.std.proofs.Common.{◌≡◌, ℕ, List, ◌++◌, Option, Some, None, Result, Ok, Err, inl, inr, refl, ap, sym, ◌∙◌}
 use Rattle.std.proofs.lemmas.Option.{same_Some}
 use Rattle.vk_lines.specs.Lines.{Rest}
-use Rattle.vk_verifier.specs.declared.answers.Fault.{Fault}
-use Rattle.vk_verifier.specs.declared.answers.Fault.TheVariants as behind
-use Rattle.vk_verifier.specs.declared.answers.Part.TheVariants as part
-use Rattle.vk_verifier.specs.Behind.{behind_judged}
-use Rattle.vk_verifier.specs.Refusals.{BeginsWith}
-use Rattle.vk_verifier.specs.Verdicts.{from_start}
-use Rattle.vk_verifier.proofs.Accepted.{accepted_behind}
-use Rattle.vk_verifier.proofs.Reasons.{fault_holds}
-use Rattle.vk_verifier.proofs.Exact.{fault_given}
+use Rattle.vk_judge.specs.declared.answers.Fault.{Fault}
+use Rattle.vk_judge.specs.declared.answers.Fault.TheVariants as behind
+use Rattle.vk_judge.specs.declared.answers.Part.TheVariants as part
+use Rattle.vk_judge.specs.Behind.{behind_judged}
+use Rattle.vk_judge.specs.Refusals.{BeginsWith}
+use Rattle.vk_judge.specs.Begun.{from_start}
+use Rattle.vk_judge.proofs.Accepted.{accepted_behind}
+use Rattle.vk_judge.proofs.Reasons.{fault_holds}
+use Rattle.vk_judge.proofs.Exact.{fault_given}
 use Rattle.vk_claim.specs.declared.claim.Claim.{Claim}
 use Rattle.vk_claim.specs.declared.front.ClaimFront.{ClaimFront}
 use Rattle.vk_claim.specs.declared.verdict.ClaimVerdict.{ClaimVerdict}

@@ -11,13 +11,13 @@ use Rattle.vk_board.specs.declared.board.LaneLines.{LaneLines}
 use Rattle.vk_board.specs.Reading.{lane_at}
 use Rattle.vk_board.specs.Tables.{Last, Over}
 use Rattle.vk_board.proofs.Faults.{lanes_follow}
-use Rattle.vk_verifier.specs.declared.answers.Fault.TheVariants as behind
-use Rattle.vk_verifier.specs.declared.answers.Part.TheVariants as part
-use Rattle.vk_verifier.specs.Behind.{in_part}
-use Rattle.vk_verifier.specs.Statement.{IsStatement}
-use Rattle.vk_verifier.specs.Refusals.{lanes_and_end_at}
-use Rattle.vk_verifier.specs.Verdicts.{from_start}
-use Rattle.vk_verifier.proofs.Steps.{value_same}
+use Rattle.vk_judge.specs.declared.answers.Fault.TheVariants as behind
+use Rattle.vk_judge.specs.declared.answers.Part.TheVariants as part
+use Rattle.vk_judge.specs.Behind.{in_part}
+use Rattle.vk_judge.specs.Statement.{IsStatement}
+use Rattle.vk_judge.specs.Refusals.{lanes_and_end_at}
+use Rattle.vk_judge.specs.Begun.{from_start}
+use Rattle.vk_judge.proofs.Steps.{value_same}
 use Rattle.vk_claim.specs.declared.claim.Claim.{Claim}
 use Rattle.vk_claim.specs.declared.front.ClaimFront.{ClaimFront}
 use Rattle.vk_claim.specs.declared.head.Kind.{Kind}

@@ -5,10 +5,10 @@ use Rattle.std.proofs.lemmas.Option.{same_Some}
 use Rattle.vk_lines.specs.Lines.{Rest}
 use Rattle.vk_io.specs.Files.{Files}
 use Rattle.vk_plan.specs.Plans.{PlanValue}
-use Rattle.vk_verifier.specs.Acceptance.{AcceptsBehind}
-use Rattle.vk_verifier.specs.Verdicts.{from_start}
-use Rattle.vk_verifier.specs.TwoBoards.{of_files}
-use Rattle.vk_verifier.proofs.Steps.{value_same}
+use Rattle.vk_judge.specs.Acceptance.{AcceptsBehind}
+use Rattle.vk_judge.specs.Begun.{from_start}
+use Rattle.vk_judge.specs.Begun.{of_files}
+use Rattle.vk_judge.proofs.Steps.{value_same}
 use Rattle.vk_bids.specs.declared.extraction.Extraction.TheVariants.{Refused, Same, Clash, Bids}
 use Rattle.vk_bids.specs.Headline.{IsFound, IsOfBehind}
 use Rattle.vk_bids.specs.LaneExtraction.{LaneExtraction, lane_extraction_behind}

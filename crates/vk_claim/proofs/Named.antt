@@ -2,9 +2,9 @@
 use Rattle.std.proofs.Common.{◌≡◌, ℕ, List, Ok}
 use Rattle.vk_residue.specs.Steps.{◌>>=◌}
 use Rattle.vk_io.specs.Files.{Files}
-use Rattle.vk_verifier.specs.Verdicts.{of_attempt, three_rests}
-use Rattle.vk_verifier.specs.TwoBoards.{five_rests, of_files}
-use Rattle.vk_verifier.proofs.Attempts.{attempt_begun, files_begun}
+use Rattle.vk_judge.specs.Begun.{of_attempt, three_rests}
+use Rattle.vk_judge.specs.Begun.{five_rests, of_files}
+use Rattle.vk_judge.proofs.Attempts.{attempt_begun, files_begun}
 use Rattle.vk_claim.specs.Values.{Plans}
 use Rattle.vk_claim.specs.Verdicts.{claim_judged, claim_verdict_on}
 use Rattle.vk_claim.specs.Two.{claim_base_at, claim_base_on, two_claims, two_claims_on}

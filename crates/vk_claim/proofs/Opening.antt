@@ -1,7 +1,7 @@
 -- The values that two replies open are values of which the claim holds.
 use Rattle.std.proofs.Common.{◌≡◌, ℕ, List, Option, Some, IfSome, take, map, slice_index_or, sym, ap, subst, ◌∙◌}
 use Rattle.vk_plan.specs.Plans.{Holds}
-use Rattle.vk_verifier.specs.Statement.{StatementValue}
+use Rattle.vk_judge.specs.Statement.{StatementValue}
 use Rattle.vk_bids.specs.declared.bids.LaneBids.{LaneBids}
 use Rattle.vk_bids.specs.declared.extraction.Extraction.TheVariants.{Refused, Same, Clash, Bids}
 use Rattle.vk_bids.specs.LaneExtraction.{AreOf, LaneExtraction, OpensLanes}

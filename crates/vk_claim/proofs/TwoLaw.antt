@@ -2,18 +2,18 @@
 use Rattle.std.proofs.Common.{◌≡◌, ℕ, Bool, true, false, if◌then◌else◌, List, ◌++◌, Option, Some, None, IsSome, option_map, Result, Ok, Err, refl, ap, sym, subst, ◌∙◌}
 use Rattle.vk_commit.specs.Commitment.{TwoOpeningsSeen}
 use Rattle.vk_lines.specs.Lines.{Rest}
-use Rattle.vk_verifier.specs.declared.answers.Fault.{Fault}
-use Rattle.vk_verifier.specs.declared.answers.Fault.TheVariants as behind
-use Rattle.vk_verifier.specs.declared.stage.Base.{Base}
-use Rattle.vk_verifier.specs.declared.stage.Finding.{Finding}
-use Rattle.vk_verifier.specs.declared.stage.Finding.TheVariants as finds
-use Rattle.vk_verifier.specs.Behind.{behind_judged}
-use Rattle.vk_verifier.specs.Two.{Ahead, BothAreAccepted, accepted_of, ahead_behind, base_behind, base_in, same_bits, two_result}
-use Rattle.vk_verifier.specs.TwoLaw.{bits_in}
-use Rattle.vk_verifier.specs.TwoValues.{GivesBehind}
-use Rattle.vk_verifier.specs.Verdicts.{from_start}
-use Rattle.vk_verifier.proofs.TwoLaw.{finds_by_judging}
-use Rattle.vk_verifier.proofs.TwoValues.{accepted_behind_give, only_accepted_behind}
+use Rattle.vk_judge.specs.declared.answers.Fault.{Fault}
+use Rattle.vk_judge.specs.declared.answers.Fault.TheVariants as behind
+use Rattle.vk_judge.specs.declared.stage.Base.{Base}
+use Rattle.vk_judge.specs.declared.stage.Finding.{Finding}
+use Rattle.vk_judge.specs.declared.stage.Finding.TheVariants as finds
+use Rattle.vk_judge.specs.Behind.{behind_judged}
+use Rattle.vk_judge.specs.Two.{Ahead, BothAreAccepted, accepted_of, ahead_behind, base_behind, base_in, same_bits, two_result}
+use Rattle.vk_judge.specs.TwoLaw.{bits_in}
+use Rattle.vk_judge.specs.TwoValues.{GivesBehind}
+use Rattle.vk_judge.specs.Begun.{from_start}
+use Rattle.vk_judge.proofs.TwoLaw.{finds_by_judging}
+use Rattle.vk_judge.proofs.TwoValues.{accepted_behind_give, only_accepted_behind}
 use Rattle.vk_bids.specs.declared.bids.LaneBids.{LaneBids}
 use Rattle.vk_bids.specs.declared.lane_extraction.OpenedLanes.{OpenedLanes}
 use Rattle.vk_bids.specs.Extractions.{found_by, gathered_after, given_by}

@@ -3,12 +3,12 @@
 use Rattle.std.specs.Prelude.{◌≡◌, ◌↔◌, ◌⊎◌, ℕ, List, Some, None}
 use Rattle.vk_lines.specs.Forms.{fault_line}
 use Rattle.vk_plan.specs.Plans.{PlanValue}
-use Rattle.vk_verifier.specs.declared.answers.Part.TheVariants as part
-use Rattle.vk_verifier.specs.declared.answers.Fault.{Fault}
-use Rattle.vk_verifier.specs.declared.answers.Fault.TheVariants as behind
-use Rattle.vk_verifier.specs.Statement.{StatementValue}
-use Rattle.vk_verifier.specs.Acceptance.{AcceptsBehind}
-use Rattle.vk_verifier.specs.Refusals.{BeginsWith, FaultHolds}
+use Rattle.vk_judge.specs.declared.answers.Part.TheVariants as part
+use Rattle.vk_judge.specs.declared.answers.Fault.{Fault}
+use Rattle.vk_judge.specs.declared.answers.Fault.TheVariants as behind
+use Rattle.vk_judge.specs.Statement.{StatementValue}
+use Rattle.vk_judge.specs.Acceptance.{AcceptsBehind}
+use Rattle.vk_judge.specs.Refusals.{BeginsWith, FaultHolds}
 use Rattle.vk_claim.specs.declared.front.ClaimFront.{ClaimFront}
 use Rattle.vk_claim.specs.declared.verdict.ClaimVerdict.TheVariants.{Accepted, Public}
 use Rattle.vk_claim.specs.Values.{IsClaimFront, Plans, plan_for, shape_for}

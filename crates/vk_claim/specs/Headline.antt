@@ -2,7 +2,7 @@
 -- values of which its claim holds, or give two openings of one commitment.
 use Rattle.std.specs.Prelude.{◌≡◌, ◌≢◌, ◌↔◌, ℕ, All, List, map, Result, Ok}
 use Rattle.vk_io.specs.Files.{Files}
-use Rattle.vk_verifier.specs.declared.answers.VErr.{VErr}
+use Rattle.vk_judge.specs.declared.answers.VErr.{VErr}
 use Rattle.vk_bids.specs.Extractions.{IsClashOr}
 use Rattle.vk_bids.specs.Headline.{HeldFiles, IsClashBehind, IsFound, IsOpened, TwoAcceptedBehind}
 use Rattle.vk_claim.specs.declared.extraction.OpenedClaim.{OpenedClaim}

@@ -2,14 +2,14 @@
 use Rattle.std.specs.Prelude.{◌≡◌, ℕ, false, List, Option, Some, None, IsSome, IfOk, IfSome, option_map, Result, Ok, Err}
 use Rattle.vk_io.specs.Files.{Files}
 use Rattle.vk_lines.specs.Lines.{Rest}
-use Rattle.vk_verifier.specs.declared.answers.Fault.{Fault}
-use Rattle.vk_verifier.specs.declared.answers.VErr.{VErr}
-use Rattle.vk_verifier.specs.declared.stage.Base.{Base}
-use Rattle.vk_verifier.specs.declared.stage.Finding.{Finding}
-use Rattle.vk_verifier.specs.declared.stage.Finding.TheVariants.{Ready, Refused, Same}
-use Rattle.vk_verifier.specs.declared.stage.TwoLane.{TwoLane}
-use Rattle.vk_verifier.specs.Two.{Ahead, IsNextLane, IsStage, ahead_behind, ahead_of, base_behind, base_in, base_of, finding_of, given_of, over, with_lane}
-use Rattle.vk_verifier.specs.TwoBoards.{of_files}
+use Rattle.vk_judge.specs.declared.answers.Fault.{Fault}
+use Rattle.vk_judge.specs.declared.answers.VErr.{VErr}
+use Rattle.vk_judge.specs.declared.stage.Base.{Base}
+use Rattle.vk_judge.specs.declared.stage.Finding.{Finding}
+use Rattle.vk_judge.specs.declared.stage.Finding.TheVariants.{Ready, Refused, Same}
+use Rattle.vk_judge.specs.declared.stage.TwoLane.{TwoLane}
+use Rattle.vk_judge.specs.Two.{Ahead, IsNextLane, IsStage, ahead_behind, ahead_of, base_behind, base_in, base_of, finding_of, given_of, over, with_lane}
+use Rattle.vk_judge.specs.Begun.{of_files}
 use Rattle.vk_claim.specs.declared.claim.Claim.{Claim}
 use Rattle.vk_claim.specs.declared.head.ClaimHead.{ClaimHead}
 use Rattle.vk_claim.specs.declared.two.ClaimCourse.{ClaimCourse}

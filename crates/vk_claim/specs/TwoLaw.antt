@@ -1,13 +1,13 @@
 -- What two replies to a claim file come to: by the verdicts on them, and by the values whose texts
 -- the files are.
 use Rattle.std.specs.Prelude.{◌≡◌, ℕ, true, false, List, Option, Some}
-use Rattle.vk_verifier.specs.declared.stage.Finding.{Finding}
-use Rattle.vk_verifier.specs.declared.stage.Finding.TheVariants as finds
-use Rattle.vk_verifier.specs.Acceptance.{AcceptsBehind}
-use Rattle.vk_verifier.specs.Two.{Ahead, accepted_of, second_part}
-use Rattle.vk_verifier.specs.TwoLaw.{bits_in}
-use Rattle.vk_verifier.specs.TwoValues.{GivesBehind, base_with}
-use Rattle.vk_verifier.specs.Verdicts.{from_start}
+use Rattle.vk_judge.specs.declared.stage.Finding.{Finding}
+use Rattle.vk_judge.specs.declared.stage.Finding.TheVariants as finds
+use Rattle.vk_judge.specs.Acceptance.{AcceptsBehind}
+use Rattle.vk_judge.specs.Two.{Ahead, accepted_of, second_part}
+use Rattle.vk_judge.specs.TwoLaw.{bits_in}
+use Rattle.vk_judge.specs.TwoValues.{GivesBehind, base_with}
+use Rattle.vk_judge.specs.Begun.{from_start}
 use Rattle.vk_bids.specs.declared.extraction.Extraction.TheVariants.{Refused, Same}
 use Rattle.vk_bids.specs.Headline.{IsFound}
 use Rattle.vk_claim.specs.declared.verdict.ClaimVerdict.{ClaimVerdict}

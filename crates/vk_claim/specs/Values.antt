@@ -6,7 +6,7 @@ use Rattle.vk_plan.specs.Plans.{PlanValue}
 use Rattle.vk_board.specs.declared.board.SealLines.{SealLines}
 use Rattle.vk_board.specs.declared.board.LaneLines.{LaneLines}
 use Rattle.vk_board.specs.Values.{AreBytes, AreSealsOf, Frame, IsLaneLines, Shape}
-use Rattle.vk_verifier.specs.Behind.{later_wires}
+use Rattle.vk_judge.specs.Behind.{later_wires}
 use Rattle.vk_claim.specs.declared.head.ClaimHead.{ClaimHead}
 use Rattle.vk_claim.specs.declared.head.Kind.{Kind}
 use Rattle.vk_claim.specs.declared.front.ClaimFront.{ClaimFront}

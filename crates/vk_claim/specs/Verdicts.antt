@@ -4,13 +4,13 @@ use Rattle.vk_residue.specs.Steps.{◌>>=◌}
 use Rattle.vk_io.specs.Files.{Files}
 use Rattle.vk_lines.specs.Lines.{Rest}
 use Rattle.vk_plan.specs.Plans.{PlanValue}
-use Rattle.vk_verifier.specs.declared.answers.Part.TheVariants as part
-use Rattle.vk_verifier.specs.declared.answers.Fault.{Fault}
-use Rattle.vk_verifier.specs.declared.answers.Fault.TheVariants as behind
-use Rattle.vk_verifier.specs.declared.answers.VErr.{VErr}
-use Rattle.vk_verifier.specs.Statement.{StatementValue}
-use Rattle.vk_verifier.specs.Behind.{behind_judged, in_part}
-use Rattle.vk_verifier.specs.Verdicts.{from_start, of_attempt}
+use Rattle.vk_judge.specs.declared.answers.Part.TheVariants as part
+use Rattle.vk_judge.specs.declared.answers.Fault.{Fault}
+use Rattle.vk_judge.specs.declared.answers.Fault.TheVariants as behind
+use Rattle.vk_judge.specs.declared.answers.VErr.{VErr}
+use Rattle.vk_judge.specs.Statement.{StatementValue}
+use Rattle.vk_judge.specs.Behind.{behind_judged, in_part}
+use Rattle.vk_judge.specs.Begun.{from_start, of_attempt}
 use Rattle.vk_claim.specs.declared.claim.Claim.{Claim}
 use Rattle.vk_claim.specs.declared.front.ClaimFront.{ClaimFront}
 use Rattle.vk_claim.specs.declared.head.ClaimHead.{ClaimHead}

@@ -1,7 +1,7 @@
 // What the lanes of a claim file are to show.
 ghost use Rattle.std.specs.Prelude.{◌≡◌, IfOk, IfSome};
 ghost use Rattle.vk_lines.specs.Lines.{OnlyReads, rest_of};
-ghost use Rattle.vk_verifier.specs.Behind.{and_rest};
+ghost use Rattle.vk_judge.specs.Behind.{and_rest};
 ghost use Rattle.vk_claim.specs.Values.{IsClaimFront, plan_for};
 ghost use Rattle.vk_claim.specs.Verdicts.{IsClaim, claim_at, claim_with};
 
@@ -13,7 +13,7 @@ use std::alloc::Global;
 use vk_io::{OutsideErr, Shelf};
 use vk_lines::Lines;
 use vk_residue::NoMemory;
-use vk_verifier::{Part, Statement, in_part, known};
+use vk_judge::{Part, Statement, in_part, known};
 
 /// A claim: the head of its file, and what the lanes are to show, whose circuit is that of the
 /// public part.

@@ -2,8 +2,8 @@
 ghost use Rattle.std.specs.Prelude.{◌≡◌, IfOk, IfSome};
 ghost use Rattle.vk_lines.specs.Gives.{Gives};
 ghost use Rattle.vk_lines.specs.Lines.{OnlyReads};
-ghost use Rattle.vk_verifier.specs.Verdicts.{unread_file};
-ghost use Rattle.vk_verifier.specs.Two.{of_two};
+ghost use Rattle.vk_judge.specs.Begun.{unread_file};
+ghost use Rattle.vk_judge.specs.Two.{of_two};
 ghost use Rattle.vk_claim.specs.Extraction.{ShowsClaims, claim_extraction, claim_extraction_named, claim_extraction_with};
 
 use crate::circuits::Circuits;
@@ -13,7 +13,7 @@ use crate::verdict::ClaimVerdict;
 use std::alloc::Global;
 use vk_bids::{Extraction, LaneExtraction, OpenedLanes, extract_behind};
 use vk_io::{OutsideErr, Shelf};
-use vk_verifier::{TwoAttempts, TwoReplies, VErr};
+use vk_judge::{TwoAttempts, TwoReplies, VErr};
 
 /// What two accepted replies open of a claim file: its head, and the values of the lanes whose two
 /// bits differ.

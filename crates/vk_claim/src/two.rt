@@ -2,8 +2,8 @@
 ghost use Rattle.std.specs.Prelude.{◌≡◌, None, Some, Ok, IfOk, IfSome, IsSomeAnd};
 ghost use Rattle.vk_lines.specs.Gives.{Gives};
 ghost use Rattle.vk_lines.specs.Lines.{OnlyReads};
-ghost use Rattle.vk_verifier.specs.Verdicts.{unread_file};
-ghost use Rattle.vk_verifier.specs.Two.{BothAreAccepted, of_two};
+ghost use Rattle.vk_judge.specs.Begun.{unread_file};
+ghost use Rattle.vk_judge.specs.Two.{BothAreAccepted, of_two};
 ghost use Rattle.vk_claim.specs.Verdicts.{IsOfHead};
 ghost use Rattle.vk_claim.specs.Two.{ClaimGoesOn, HasClaim, IsChecked, IsClaimCourse, IsClaimOver, IsLaneStep, ahead_after_claim, as_claim_finding, base_after_claim, claim_ahead, claim_base, claim_base_on, claim_finding, claim_given, two_claims_on};
 
@@ -15,7 +15,7 @@ use std::alloc::Global;
 use std::marker::Model;
 use vk_io::{OutsideErr, Shelf};
 use vk_plan::Plan;
-use vk_verifier::{Fault, Finding, LaneChecker, TwoAttempts, TwoLane, TwoReplies, VErr};
+use vk_judge::{Fault, Finding, LaneChecker, TwoAttempts, TwoLane, TwoReplies, VErr};
 
 /// What two replies to a claim file come to.
 pub type ClaimFinding = Finding<ClaimVerdict>;

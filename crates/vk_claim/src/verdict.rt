@@ -2,15 +2,15 @@
 ghost use Rattle.std.specs.Prelude.{◌≡◌, IfOk, IfSome};
 ghost use Rattle.vk_lines.specs.Gives.{Gives};
 ghost use Rattle.vk_lines.specs.Lines.{OnlyReads};
-ghost use Rattle.vk_verifier.specs.Behind.{behind_judged};
-ghost use Rattle.vk_verifier.specs.Verdicts.{of_begun, unread_file};
+ghost use Rattle.vk_judge.specs.Behind.{behind_judged};
+ghost use Rattle.vk_judge.specs.Begun.{of_begun, unread_file};
 ghost use Rattle.vk_claim.specs.Verdicts.{as_claim, claim_judged, claim_verdict_on, verdict_behind};
 
 use crate::circuits::Circuits;
 use crate::claim::read_claim;
 use std::alloc::Global;
 use vk_io::{OutsideErr, Shelf};
-use vk_verifier::{Attempt, Fault, OneReply, Part, Statement, VErr, judge_behind, known};
+use vk_judge::{Attempt, Fault, OneReply, Part, Statement, VErr, judge_behind, known};
 use vk_wire::WireFault;
 
 /// The first fault of a claim file, a challenge and a reply, or that there is none.
@@ -109,7 +109,7 @@ fn judge_claim<S: Shelf, Q: Circuits>(
 }
 
 /// Judges the files behind the front of which this is the statement.
-#[tactic(auto, using(vk_verifier::proofs::Joined::behind_parts))]
+#[tactic(auto, using(vk_judge::proofs::Joined::behind_parts))]
 fn judge_lanes<S: Shelf>(
     alloc: Global,
     shelf: &mut S,

@@ -5,15 +5,15 @@ use Rattle.std.specs.Prelude.{◌⊎◌, ◌↔◌, Decides}
 use Rattle.std.specs.Cmp.{booleans_Decides}
 use Rattle.std.proofs.lemmas.Slice.Eq.{slice_eq-Decides}
 use Rattle.vk_reply.proofs.Challenges.{challenge_is_whole}
-use Rattle.vk_verifier.specs.declared.answers.Fault.TheVariants as behind
-use Rattle.vk_verifier.specs.declared.stage.Finding.{Finding}
-use Rattle.vk_verifier.specs.declared.stage.Finding.TheVariants as finds
-use Rattle.vk_verifier.specs.Acceptance.{AcceptsBehind}
-use Rattle.vk_verifier.specs.Statement.{StatementValue}
-use Rattle.vk_verifier.specs.Two.{accepted_of, same_bits}
-use Rattle.vk_verifier.specs.TwoLaw.{bits_in, bits_read}
-use Rattle.vk_verifier.specs.Verdicts.{from_start}
-use Rattle.vk_verifier.proofs.Bits.{same_bits_are}
+use Rattle.vk_judge.specs.declared.answers.Fault.TheVariants as behind
+use Rattle.vk_judge.specs.declared.stage.Finding.{Finding}
+use Rattle.vk_judge.specs.declared.stage.Finding.TheVariants as finds
+use Rattle.vk_judge.specs.Acceptance.{AcceptsBehind}
+use Rattle.vk_judge.specs.Statement.{StatementValue}
+use Rattle.vk_judge.specs.Two.{accepted_of, same_bits}
+use Rattle.vk_judge.specs.TwoLaw.{bits_in, bits_read}
+use Rattle.vk_judge.specs.Begun.{from_start}
+use Rattle.vk_judge.proofs.Bits.{same_bits_are}
 use Rattle.vk_bids.specs.declared.extraction.Extraction.TheVariants.{Refused, Same, Clash, Bids}
 use Rattle.vk_bids.specs.Headline.{IsFound}
 use Rattle.vk_claim.specs.declared.verdict.ClaimVerdict.{ClaimVerdict}

@@ -3,3 +3,13 @@ pub mod Verifying
 pub mod Extracting
 pub mod Parts
 pub mod Soundness
+pub mod Cases
+pub mod Sales
+pub mod Matchings
+pub mod Shown
+pub mod Circuits
+pub mod Proofs
+pub mod Sizes
+pub mod Opened
+pub mod Pieces
+pub mod Acting

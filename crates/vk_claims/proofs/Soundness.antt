@@ -6,7 +6,7 @@ use Rattle.vk_commit.specs.Commitment.{TwoOpeningsSeen}
 use Rattle.vk_lines.specs.Forms.{line}
 use Rattle.vk_board.specs.declared.board.SealLines.{SealLines}
 use Rattle.vk_board.specs.Texts.{lanes_text}
-use Rattle.vk_verifier.specs.Statement.{StatementValue}
+use Rattle.vk_judge.specs.Statement.{StatementValue}
 use Rattle.vk_bids.specs.Headline.{IsClashBehind, differing_behind, lane_of}
 use Rattle.vk_bids.specs.Soundness.{TellsTwoOpenings}
 use Rattle.vk_bids.specs.Texts.{agreements_text, clash_text}

@@ -2,8 +2,8 @@
 -- accepted.
 use Rattle.std.proofs.Common.{◌≡◌, ◌≢◌, ℕ, ◌<◌, ◌≤◌, Bool, false, List, Some, Result, Ok, Err, refl, ap, subst, ◌∙◌, arith}
 use Rattle.vk_io.specs.Files.{Files}
-use Rattle.vk_verifier.specs.declared.answers.Part.{Part}
-use Rattle.vk_verifier.specs.declared.answers.VErr.{VErr}
+use Rattle.vk_judge.specs.declared.answers.Part.{Part}
+use Rattle.vk_judge.specs.declared.answers.VErr.{VErr}
 use Rattle.vk_bids.specs.Headline.{HeldAttempt, IsHeldFile}
 use Rattle.vk_claim.specs.declared.verdict.ClaimVerdict.{ClaimVerdict}
 use Rattle.vk_claim.specs.declared.verdict.ClaimVerdict.TheVariants.{Accepted, Malformed, Public, Lanes, Wire, Row}

@@ -1,7 +1,7 @@
 -- The verdicts on claims, and what two replies to a claim file come to, by the bytes of the files,
 -- whatever public parts are admitted.
 use Rattle.std.specs.Prelude.{◌≡◌, ◌≢◌, ℕ, false, true, List}
-use Rattle.vk_verifier.specs.declared.answers.Fault.TheVariants as behind
+use Rattle.vk_judge.specs.declared.answers.Fault.TheVariants as behind
 use Rattle.vk_bids.specs.declared.extraction.Extraction.TheVariants.{Refused, Same, Clash, Bids}
 use Rattle.vk_bids.specs.Headline.{IsClashBehind}
 use Rattle.vk_claim.specs.declared.verdict.ClaimVerdict.{ClaimVerdict}

@@ -6,3 +6,7 @@ pub mod Orders
 pub mod Findings
 pub mod Statuses
 pub mod Soundness
+pub mod Claims
+pub mod Texts
+pub mod ClaimSamples
+pub mod Laws

@@ -8,16 +8,16 @@ use Rattle.vk_board.specs.declared.board.SealLines.{SealLines}
 use Rattle.vk_board.specs.Values.{AreSealsOf}
 use Rattle.vk_board.specs.Reading.{seal_lines_at}
 use Rattle.vk_lines.specs.Lines.{Rest}
-use Rattle.vk_verifier.specs.declared.answers.Part.TheVariants as part
-use Rattle.vk_verifier.specs.declared.answers.Fault.{Fault}
-use Rattle.vk_verifier.specs.declared.answers.VErr.{VErr}
-use Rattle.vk_verifier.specs.declared.answers.VErr.TheVariants as verr
-use Rattle.vk_verifier.specs.declared.halt.Halt.{Halt}
-use Rattle.vk_verifier.specs.Behind.{Judges, in_part}
-use Rattle.vk_verifier.specs.Verdicts.{begun_file, from_start, of_attempt, three_rests}
-use Rattle.vk_verifier.proofs.Attempts.{attempt_begun, files_begun}
-use Rattle.vk_verifier.specs.TwoBoards.{five_rests, of_files}
-use Rattle.vk_verifier.specs.Statement.{StatementValue, IsStatement}
+use Rattle.vk_judge.specs.declared.answers.Part.TheVariants as part
+use Rattle.vk_judge.specs.declared.answers.Fault.{Fault}
+use Rattle.vk_judge.specs.declared.answers.VErr.{VErr}
+use Rattle.vk_judge.specs.declared.answers.VErr.TheVariants as verr
+use Rattle.vk_judge.specs.declared.halt.Halt.{Halt}
+use Rattle.vk_judge.specs.Behind.{Judges, in_part}
+use Rattle.vk_judge.specs.Begun.{begun_file, from_start, of_attempt, three_rests}
+use Rattle.vk_judge.proofs.Attempts.{attempt_begun, files_begun}
+use Rattle.vk_judge.specs.Begun.{five_rests, of_files}
+use Rattle.vk_judge.specs.Statement.{StatementValue, IsStatement}
 use Rattle.vk_bids.specs.declared.bids.LaneBids.{LaneBids}
 use Rattle.vk_bids.specs.declared.extraction.Extraction.TheVariants.{Refused, Same, Clash, Bids}
 use Rattle.vk_bids.specs.LaneExtraction.{AreOf, LaneExtraction, OpensLanes}

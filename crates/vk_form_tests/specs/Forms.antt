@@ -12,7 +12,7 @@ use Rattle.vk_board.specs.Values.{AreBytes, AreSealsOf, Frame, IsLaneLines}
 use Rattle.vk_board.specs.Texts.{behind_text}
 use Rattle.vk_board.specs.Reading.{behind_at}
 use Rattle.vk_board.specs.Tables.{HeadTable, InHead, BoardPlace, behind_head, sealed_table}
-use Rattle.vk_verifier.specs.Behind.{later_wires}
+use Rattle.vk_judge.specs.Behind.{later_wires}
 use Rattle.vk_form_tests.specs.declared.form.SumHead.{SumHead}
 use Rattle.vk_form_tests.specs.Sums.{sum_plan}
 

@@ -5,13 +5,13 @@ use Rattle.vk_io.specs.Files.{Files}
 use Rattle.vk_lines.specs.Lines.{Rest}
 use Rattle.vk_board.specs.declared.board.SealLines.{SealLines}
 use Rattle.vk_board.specs.Reading.{seal_lines_at}
-use Rattle.vk_verifier.specs.declared.answers.Part.TheVariants as part
-use Rattle.vk_verifier.specs.declared.answers.Fault.{Fault}
-use Rattle.vk_verifier.specs.declared.answers.VErr.{VErr}
-use Rattle.vk_verifier.specs.Statement.{StatementValue}
-use Rattle.vk_verifier.specs.Behind.{behind_judged, in_part}
-use Rattle.vk_verifier.specs.Verdicts.{of_attempt}
-use Rattle.vk_verifier.specs.TwoBoards.{of_files}
+use Rattle.vk_judge.specs.declared.answers.Part.TheVariants as part
+use Rattle.vk_judge.specs.declared.answers.Fault.{Fault}
+use Rattle.vk_judge.specs.declared.answers.VErr.{VErr}
+use Rattle.vk_judge.specs.Statement.{StatementValue}
+use Rattle.vk_judge.specs.Behind.{behind_judged, in_part}
+use Rattle.vk_judge.specs.Begun.{of_attempt}
+use Rattle.vk_judge.specs.Begun.{of_files}
 use Rattle.vk_bids.specs.declared.bids.LaneBids.{LaneBids}
 use Rattle.vk_bids.specs.declared.extraction.Extraction.TheVariants.{Refused}
 use Rattle.vk_bids.specs.declared.lane_extraction.OpenedLanes.{OpenedLanes}

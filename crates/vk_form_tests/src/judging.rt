@@ -6,8 +6,8 @@ ghost use Rattle.std.specs.FinMap as map;
 ghost use Rattle.vk_lines.specs.Gives.{Gives};
 ghost use Rattle.vk_lines.specs.Lines.{OnlyReads, rest_of};
 ghost use Rattle.vk_board.specs.Values.{AreSealsOf};
-ghost use Rattle.vk_verifier.specs.Behind.{Judges};
-ghost use Rattle.vk_verifier.specs.Verdicts.{of_begun, unread_file};
+ghost use Rattle.vk_judge.specs.Behind.{Judges};
+ghost use Rattle.vk_judge.specs.Begun.{of_begun, unread_file};
 ghost use Rattle.vk_form_tests.specs.Forms.{IsSumHead};
 ghost use Rattle.vk_form_tests.specs.Judging.{Begins, IsOfHead, OpensSums, statement_at, sum_extraction_on, sum_judged, sum_judged_on, sum_statement};
 
@@ -21,9 +21,7 @@ use vk_lines::Lines;
 use vk_plan::Circuit;
 use vk_residue::NoMemory;
 use vk_seq::Seq;
-use vk_verifier::{
-    Attempt, Fault, Halt, OneReply, Part, Statement, TwoReplies, VErr, in_part, judge_behind, known,
-};
+use vk_judge::{Attempt, Fault, Halt, OneReply, Part, Statement, TwoReplies, VErr, in_part, judge_behind, known};
 
 /// Reads the head and the seals of a sum file: what its lanes are to show.
 #[tactic(auto, unfolding(crate::specs::Judging::statement_at))]
@@ -79,7 +77,7 @@ pub fn judge<S: Shelf>(
 }
 
 /// Judges the files, from their first lines to their ends.
-#[tactic(auto, using(vk_verifier::proofs::Joined::behind_parts), unfolding(crate::specs::Judging::sum_judged))]
+#[tactic(auto, using(vk_judge::proofs::Joined::behind_parts), unfolding(crate::specs::Judging::sum_judged))]
 fn judge_lines<S: Shelf>(alloc: Global, shelf: &mut S, attempt: Attempt) -> Result<(), Halt<Fault>>
     ensures modelled { IfSome (S.held shelf.old)
         (λ files. Judges (λ done. done) result (of_begun sum_judged attempt files)) }

@@ -12,10 +12,11 @@ use Rattle.vk_reply.specs.declared.challenge.Challenge.{Challenge}
 use Rattle.vk_reply.specs.Texts.{challenge_text}
 use Rattle.vk_reply.specs.Values.{IsChallenge, IsReply}
 use Rattle.vk_range.specs.SetLaws.{at_listed, length_listed}
-use Rattle.vk_verifier.specs.Statement.{StatementValue}
-use Rattle.vk_verifier.specs.Behind.{case_of}
+use Rattle.vk_judge.specs.Statement.{StatementValue}
+use Rattle.vk_judge.specs.Behind.{case_of}
 use Rattle.vk_verifier.specs.Verdicts.{statement_of}
-use Rattle.vk_verifier.specs.Acceptance.{Accepts, AcceptsBehind, AreLanes, LaneIsAccepted, bit_of, file_text, no_lines, shape_of}
+use Rattle.vk_judge.specs.Acceptance.{AcceptsBehind, AreLanes, LaneIsAccepted, bit_of, file_text, no_lines}
+use Rattle.vk_verifier.specs.Acceptance.{Accepts, shape_of}
 use Rattle.vk_verifier.proofs.Plans.{rows_are, wires_are}
 use Rattle.vk_keeper.specs.declared.auction.Auction.{Auction}
 use Rattle.vk_job.specs.Proofs.{ProofValue, lane_in, lane_shown_in, lanes_in, lanes_shown_from, reply_in}

@@ -17,7 +17,7 @@ use Rattle.vk_extractor.specs.Confronting.{secret_com, tape_in}
 use Rattle.vk_prover.specs.Honest.{honest_case, honest_halves, no_tape}
 use Rattle.vk_prover.proofs.Accepted.{IsHonest, coms_published, honest_accepted, honest_lane_of, input_at, inputs_sealed}
 use Rattle.vk_prover.proofs.Wires.{inputs_within}
-use Rattle.vk_verifier.specs.Behind.{case_of, input_coms}
+use Rattle.vk_judge.specs.Behind.{case_of, input_coms}
 use Rattle.vk_keeper.specs.Auctions.{IsSealRow}
 use Rattle.vk_keeper.specs.declared.auction.SealRow.{SealRow}
 use Rattle.vk_job.specs.Proofs.{ProofValue, lane_in, lane_shown_in, lane_tape_in, no_row, seal_lines_of}

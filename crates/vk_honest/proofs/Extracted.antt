@@ -16,7 +16,7 @@ use Rattle.vk_extractor.specs.FirstClash.{WireAgrees}
 use Rattle.vk_reply.specs.declared.challenge.Challenge.{Challenge}
 use Rattle.vk_reply.specs.Texts.{challenge_text}
 use Rattle.vk_reply.specs.Values.{IsChallenge}
-use Rattle.vk_verifier.specs.Acceptance.{bit_of}
+use Rattle.vk_judge.specs.Acceptance.{bit_of}
 use Rattle.vk_bids.specs.declared.bids.LaneBids.{LaneBids}
 use Rattle.vk_bids.specs.declared.bids.OpenedBid.{OpenedBid}
 use Rattle.vk_bids.specs.declared.extraction.Extracted.{Extracted}

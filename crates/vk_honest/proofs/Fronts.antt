@@ -15,8 +15,8 @@ use Rattle.vk_vickrey.specs.Sales.{sale_at}
 use Rattle.vk_vickrey.specs.ReservePlans.{IsSaleCase}
 use Rattle.vk_vickrey.specs.BoardPlans.{BoardClaim, board_numbers, board_plan, board_values}
 use Rattle.vk_vickrey.specs.BoardLaws.{board_begins, of_plans}
-use Rattle.vk_verifier.specs.Acceptance.{file_text}
-use Rattle.vk_verifier.specs.Statement.{StatementValue}
+use Rattle.vk_judge.specs.Acceptance.{file_text}
+use Rattle.vk_judge.specs.Statement.{StatementValue}
 use Rattle.vk_verifier.specs.Verdicts.{statement_of}
 use Rattle.vk_keeper.specs.declared.auction.Auction.{Auction}
 use Rattle.vk_job.specs.Outcome.{position_in, price_in}

@@ -31,7 +31,7 @@ use Rattle.vk_vickrey.specs.declared.sales.Sale.TheVariants.{Sold, Unsold}
 use Rattle.vk_vickrey.specs.VickreyPlans.{row_count, wire_count}
 use Rattle.vk_vickrey.specs.ReservePlans.{sale_row_count, sale_wire_count}
 use Rattle.vk_vickrey.specs.BoardPlans.{BoardNumbers, board_row_count, board_wire_count}
-use Rattle.vk_verifier.specs.Behind.{later_wires}
+use Rattle.vk_judge.specs.Behind.{later_wires}
 use Rattle.vk_verifier.specs.Acceptance.{shape_of}
 use Rattle.vk_verifier.proofs.Plans as verifier
 use Rattle.vk_keeper.specs.declared.auction.Auction.{Auction}

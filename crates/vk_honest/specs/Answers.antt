@@ -5,8 +5,9 @@ use Rattle.vk_board.specs.declared.front.Front.{Front}
 use Rattle.vk_reply.specs.declared.challenge.Challenge.{Challenge}
 use Rattle.vk_reply.specs.Texts.{challenge_text}
 use Rattle.vk_reply.specs.Values.{IsChallenge}
-use Rattle.vk_verifier.specs.Statement.{StatementValue}
-use Rattle.vk_verifier.specs.Acceptance.{Accepts, AcceptsBehind, file_text}
+use Rattle.vk_judge.specs.Statement.{StatementValue}
+use Rattle.vk_judge.specs.Acceptance.{AcceptsBehind, file_text}
+use Rattle.vk_verifier.specs.Acceptance.{Accepts}
 use Rattle.vk_keeper.specs.Auctions.{IsSealRow}
 use Rattle.vk_keeper.specs.declared.auction.Auction.{Auction}
 use Rattle.vk_job.specs.Proofs.{ProofValue, IsProof, lanes_in, reply_in, seal_lines_of}

@@ -1,5 +1,3 @@
-pub mod Seals
-pub mod Rows
 pub mod Auctions
 pub mod Opened
 pub mod Pieces

@@ -11,7 +11,7 @@ use Rattle.vk_job.proofs.Joined.{board_is_joined, reply_is_joined}
 use Rattle.vk_report.specs.declared.sample.SampleCase.{SampleCase}
 use Rattle.vk_words.specs.Names.{ExtractWords}
 use Rattle.vk_sample.specs.Texts.{files_of, sample_names}
-use Rattle.vk_sample.specs.Written.{written_of}
+use Rattle.vk_sample_parts.specs.Written.{written_of}
 
 pub texts_are : (sample : SampleCase) (auction : Auction)
     → texts_of (written_of sample_names (head_text (head_of auction)) (proof_of auction)

@@ -13,8 +13,9 @@ use Rattle.vk_honest.specs.Extracted.{sealed_bids}
 use Rattle.vk_honest.specs.Sizes.{line_count}
 use Rattle.vk_report.specs.declared.sample.SampleCase.{SampleCase}
 use Rattle.vk_report.specs.Samples.{auction_sizes, sample_of}
-use Rattle.vk_sample.specs.Auctions.{auction_of}
-use Rattle.vk_sample.specs.Texts.{files_of, same_count, sample_read}
+use Rattle.vk_sample_parts.specs.Auctions.{auction_of}
+use Rattle.vk_sample_parts.specs.Texts.{same_count}
+use Rattle.vk_sample.specs.Texts.{files_of, sample_read}
 
 -- a law of every number none of whose seeds is dry
 abbrev pub OfEachSample : (SampleCase → Auction → Type 0) → Type 0

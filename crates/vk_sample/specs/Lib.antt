@@ -1,5 +1,3 @@
-pub mod Auctions
 pub mod Texts
-pub mod Written
 pub mod Samples
 pub mod Laws

@@ -1,26 +1,23 @@
 -- What `sample` says, and which files it writes.
 use Rattle.std.specs.Prelude.{ℕ, List, [], ◌∷◌, ◌++◌, length, codes, decimal, Result, Ok, Err}
-use Rattle.std.specs.List.{count_by, range_with_len}
 use Rattle.vk_board.specs.declared.board.Head.{Head}
 use Rattle.vk_io.specs.Files.{Files}
 use Rattle.vk_reply.specs.Texts.{challenge_text}
-use Rattle.vk_verifier.specs.declared.answers.VErr.{VErr}
-use Rattle.vk_bids.specs.declared.bids.LaneBids.{LaneBids}
+use Rattle.vk_judge.specs.declared.answers.VErr.{VErr}
 use Rattle.vk_bids.specs.Extraction.{Extraction, extraction_on}
 use Rattle.vk_bids.specs.declared.extraction.Extraction.TheVariants.{Refused, Same, Clash, Bids}
-use Rattle.vk_bids.specs.Texts.{has_one_bid, sale_line}
+use Rattle.vk_bids.specs.Texts.{sale_line}
 use Rattle.vk_keeper.specs.declared.auction.Auction.{Auction}
 use Rattle.vk_job.specs.Published.{board_of, reply_of}
 use Rattle.vk_honest.specs.Sizes.{board_lines, reply_lines}
 use Rattle.vk_report.specs.declared.sample.SampleCase.{SampleCase}
 use Rattle.vk_report.specs.Reports.{head_numbers}
 use Rattle.vk_words.specs.Names.{ExtractWords}
-use Rattle.vk_effect.specs.Dry.{bidder_dry_line, house_dry_line}
 use Rattle.vk_effect.specs.Effects.{SaidValue}
 use Rattle.vk_effect.specs.Texts.{◌+++◌, line_feed}
 use Rattle.vk_audit.specs.Extractions.{extraction_said}
 use Rattle.vk_audit.specs.Verdicts.{unread_said}
-use Rattle.vk_sample.specs.Auctions.{DrySeed, OfBidder, OfHouse}
+use Rattle.vk_sample_parts.specs.Texts.{found_text, same_count}
 
 -- ---- the five files
 
@@ -47,15 +44,6 @@ files_of sample auction =
     ∷ (sample_names.second.reply, reply_of auction sample.second)
     ∷ []
 
--- ---- a seed that is dry
-
-abbrev pub dry_line : DrySeed → List ℕ
-dry_line (OfBidder lane) = bidder_dry_line lane
-dry_line (OfHouse dry) = house_dry_line dry.lane dry.wire
-
-abbrev pub dry_said : DrySeed → SaidValue
-dry_said dry = record { status = 8; text = dry_line dry }
-
 -- ---- the summary
 
 -- of the auction as it was made, by the head of its board: how many lines the board and a reply
@@ -75,23 +63,6 @@ made_text number head =
     ++ (counts_text (board_lines (head_numbers head) head.lanes)
     (reply_lines (head_numbers head) head.lanes)
     ++ sale_line head))
-
--- both replies are accepted
-abbrev pub accepted_text : List ℕ
-accepted_text = (codes "verify 1 accepted" +++ line_feed)
-    ++ (codes "verify 2 accepted" +++ line_feed)
-
--- in how many lanes bids were opened, and of how many seals they are equal in all of these
-abbrev pub opened_text : ℕ → ℕ → List ℕ
-opened_text lanes same = (codes "extract lanes " +++ decimal lanes +++ codes " same " +++ decimal
-    same +++ line_feed) ++ (codes "end" +++ line_feed)
-
-abbrev pub found_text : ℕ → ℕ → List ℕ
-found_text lanes same = accepted_text ++ opened_text lanes same
-
--- how many of so many seals have one bid in all lanes
-abbrev pub same_count : ℕ → List LaneBids → ℕ
-same_count seals lanes = count_by (λ index. has_one_bid index lanes) (range_with_len 0 seals)
 
 -- what is said of the files as they were read back: bids are opened only where both replies are
 -- accepted. Else what `extract` says

@@ -1,7 +1,8 @@
 ghost use Rattle.std.specs.Prelude.{◌≡◌, ℕ, Ok};
 ghost use Rattle.vk_io.specs.Faults.{Causes};
-ghost use Rattle.vk_sample.specs.Auctions.{auction_of};
-ghost use Rattle.vk_sample.specs.Samples.{ActsAs, IsSampleCase, effect_by, sample_on};
+ghost use Rattle.vk_sample_parts.specs.Auctions.{auction_of};
+ghost use Rattle.vk_sample_parts.specs.Effects.{ActsAs};
+ghost use Rattle.vk_sample.specs.Samples.{IsSampleCase, effect_by, sample_on};
 
 use crate::files::write_sample;
 use crate::making::make_job;

@@ -7,16 +7,18 @@ ghost use Rattle.vk_board.specs.Values.{IsHead};
 ghost use Rattle.vk_report.specs.Reports.{head_numbers};
 ghost use Rattle.vk_honest.specs.Sizes.{board_lines, reply_lines};
 ghost use Rattle.vk_audit.specs.Audits.{Says};
-ghost use Rattle.vk_sample.specs.Texts.{accepted_text, counts_text, found_text, made_text, opened_said, opened_text, read_said, same_count, sample_read, size_line};
+ghost use Rattle.vk_sample_parts.specs.Texts.{found_text, same_count};
+ghost use Rattle.vk_sample.specs.Texts.{counts_text, made_text, opened_said, read_said, sample_read, size_line};
 
 use crate::files::sample_names;
 use std::alloc::Global;
 use vk_audit::{extracted, replies_of, unread};
-use vk_bids::{Extracted, Extraction, LaneBids, extract, has_one_bid, sale_line};
+use vk_bids::{Extracted, Extraction, extract, sale_line};
 use vk_board::Head;
 use vk_effect::Said;
 use vk_io::{OutsideErr, Shelf};
 use vk_residue::NoMemory;
+use vk_sample_parts::{found_lines, push, push_two, same_count};
 use vk_vickrey::{row_count, wire_count};
 
 /// How many lines the board has, which is of version 1.
@@ -36,25 +38,6 @@ fn reply_lines(head: &Head) -> u32
     ensures { result ≡ reply_lines (head_numbers head.now) head.now.lanes }
 {
     2 + head.lanes * (1 + wire_count(head.seals, head.width)) + 1
-}
-
-/// One line more.
-fn push(lines: &mut Vec<String>, line: String) -> Result<(), NoMemory>
-    ensures { OnOk result (flat_map string_bytes lines.new.items
-        ≡ flat_map string_bytes lines.old.items ++ string_bytes line) }
-{
-    lines.push(line)?;
-    Ok(())
-}
-
-/// Two lines more.
-pub fn push_two(lines: &mut Vec<String>, first: String, second: String) -> Result<(), NoMemory>
-    ensures { OnOk result (flat_map string_bytes lines.new.items
-        ≡ flat_map string_bytes lines.old.items ++ (string_bytes first ++ string_bytes second)) }
-{
-    push(lines, first)?;
-    push(lines, second)?;
-    Ok(())
 }
 
 /// The lines of the auction as it was made, which is of version 1.
@@ -113,32 +96,6 @@ fn push_sale(alloc: Global, lines: &mut Vec<String>, head: &Head) -> Result<(), 
     Ok(())
 }
 
-/// How many of so many seals have one bid in all lanes.
-pub fn same_count(seals: usize, lanes: &[LaneBids]) -> usize
-    ensures { result ≡ same_count seals lanes.now }
-{
-    (0..seals)
-        .filter(|index| has_one_bid(*index, lanes))
-        .count()
-}
-
-/// The lines of what both replies open, behind those of what was made: in how many lanes, and of
-/// how many seals the same in all of these.
-pub fn found_lines(
-    alloc: Global,
-    made: Vec<String>,
-    lanes: usize,
-    same: usize,
-) -> Result<Vec<String>, NoMemory>
-    ensures { IfOk result (λ text. flat_map string_bytes text.items
-        ≡ flat_map string_bytes made.items ++ found_text lanes same) }
-{
-    let mut text = made;
-    push_accepted(alloc, &mut text)?;
-    push_opened(alloc, lanes, same, &mut text)?;
-    Ok(text)
-}
-
 /// Those of bids that both replies open.
 fn bids_lines(alloc: Global, made: Vec<String>, found: &Extracted) -> Result<Vec<String>, NoMemory>
     ensures { IfOk result (λ text. flat_map string_bytes text.items
@@ -149,33 +106,6 @@ fn bids_lines(alloc: Global, made: Vec<String>, found: &Extracted) -> Result<Vec
     let same = same_count(found.front.seals.len(), lanes);
     let text = found_lines(alloc, made, lanes.len(), same)?;
     Ok(text)
-}
-
-/// That both replies are accepted.
-fn push_accepted(alloc: Global, lines: &mut Vec<String>) -> Result<(), NoMemory>
-    ensures { OnOk result (flat_map string_bytes lines.new.items
-        ≡ flat_map string_bytes lines.old.items ++ accepted_text) }
-{
-    let first = format!(in alloc; "verify 1 accepted\n")?;
-    let second = format!(in alloc; "verify 2 accepted\n")?;
-    push_two(lines, first, second)?;
-    Ok(())
-}
-
-/// In how many lanes bids were opened, and of how many seals they are equal in all of these.
-fn push_opened(
-    alloc: Global,
-    lanes: usize,
-    same: usize,
-    lines: &mut Vec<String>,
-) -> Result<(), NoMemory>
-    ensures { OnOk result (flat_map string_bytes lines.new.items
-        ≡ flat_map string_bytes lines.old.items ++ opened_text lanes same) }
-{
-    let first = format!(in alloc; "extract lanes {lanes} same {same}\n")?;
-    let second = format!(in alloc; "end\n")?;
-    push_two(lines, first, second)?;
-    Ok(())
 }
 
 /// What is said of what the replies come to as they were read back.

@@ -11,8 +11,8 @@ use Rattle.vk_board.specs.declared.board.SealLines.{SealLines}
 use Rattle.vk_board.specs.declared.front.Front.{Front}
 use Rattle.vk_board.specs.declared.board.Head.{Head}
 use Rattle.vk_board.specs.Fronts.{IsFront, IsPlaced}
-use Rattle.vk_verifier.specs.Statement.{IsStatement}
-use Rattle.vk_verifier.specs.Behind.{later_wires}
+use Rattle.vk_judge.specs.Statement.{IsStatement}
+use Rattle.vk_judge.specs.Behind.{later_wires}
 use Rattle.vk_verifier.specs.Verdicts.{numbers_in, plan_of, statement_of}
 use Rattle.vk_verifier.specs.Acceptance.{head_numbers, shape_of}
 use Rattle.vk_verifier.proofs.Fronts.{front_case}

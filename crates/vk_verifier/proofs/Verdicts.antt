@@ -17,19 +17,21 @@ use Rattle.vk_board.proofs.Boards.{board_with}
 use Rattle.vk_board.proofs.Faults.{board_fault}
 use Rattle.vk_board.proofs.Fronts.{FrontRead, front_at_shown}
 use Rattle.vk_board.proofs.FrontLaws.{fronts_read, fronts_refused}
-use Rattle.vk_verifier.specs.declared.answers.Part.TheVariants as part
-use Rattle.vk_verifier.specs.declared.answers.Fault.{Fault}
-use Rattle.vk_verifier.specs.declared.answers.Fault.TheVariants as behind
+use Rattle.vk_judge.specs.declared.answers.Part.TheVariants as part
+use Rattle.vk_judge.specs.declared.answers.Fault.{Fault}
+use Rattle.vk_judge.specs.declared.answers.Fault.TheVariants as behind
 use Rattle.vk_verifier.specs.declared.answers.BoardVerdict.{BoardVerdict}
 use Rattle.vk_verifier.specs.declared.answers.BoardVerdict.TheVariants.{Accepted, Malformed, Price, Winner, Lanes, Wire, Row}
-use Rattle.vk_verifier.specs.Behind.{behind_judged}
-use Rattle.vk_verifier.specs.Verdicts.{front_verdict, in_front, statement_of, as_verdict, in_board, judged, verdict_by, from_start, verdict_of}
+use Rattle.vk_judge.specs.Behind.{behind_judged}
+use Rattle.vk_judge.specs.Begun.{from_start}
+use Rattle.vk_verifier.specs.Verdicts.{front_verdict, in_front, statement_of, as_verdict, in_board, judged, verdict_by, verdict_of}
 use Rattle.vk_verifier.specs.Acceptance.{shape_of, Accepts, AcceptedExactly}
-use Rattle.vk_verifier.specs.Refusals.{lanes_and_end_at, HasFront, IsBoardLine, FailsBehind, VerdictHolds, VerdictsAreExact}
+use Rattle.vk_judge.specs.Refusals.{lanes_and_end_at}
+use Rattle.vk_verifier.specs.Refusals.{HasFront, IsBoardLine, FailsBehind, VerdictHolds, VerdictsAreExact}
 use Rattle.vk_verifier.proofs.Plans.{statement_right, wires_are, rows_are}
-use Rattle.vk_verifier.proofs.Accepted.{accepted_behind}
-use Rattle.vk_verifier.proofs.Reasons.{fault_holds}
-use Rattle.vk_verifier.proofs.Exact.{stop_is, fault_given}
+use Rattle.vk_judge.proofs.Accepted.{accepted_behind}
+use Rattle.vk_judge.proofs.Reasons.{fault_holds}
+use Rattle.vk_judge.proofs.Exact.{stop_is, fault_given}
 
 -- ---- the fault line of a board that has a front
 

@@ -1,12 +1,7 @@
-pub mod Statement
-pub mod Behind
 pub mod Verdicts
-pub mod Parts
-pub mod Two
 pub mod TwoBoards
 pub mod Answers
 pub mod TwoLaw
 pub mod Acceptance
 pub mod TwoValues
 pub mod Refusals
-pub mod Wanting

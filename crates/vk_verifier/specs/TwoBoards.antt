@@ -1,27 +1,24 @@
 -- Two replies to a board: its front, and then what stands behind it.
 use Rattle.std.specs.Prelude.{◌≡◌, ℕ, Bool, true, false, if◌then◌else◌, List, Option, Some, None, IsSome, IfSome, option_map, Result, Ok, Err}
-use Rattle.std.specs.FinMap.{get}
-use Rattle.vk_residue.specs.Steps.{◌>>=◌}
 use Rattle.vk_io.specs.Files.{Files}
 use Rattle.vk_lines.specs.Lines.{Rest}
 use Rattle.vk_board.specs.declared.front.Front.{Front}
 use Rattle.vk_board.specs.Fronts.{IsFront}
-use Rattle.vk_verifier.specs.declared.answers.Part.TheVariants as part
-use Rattle.vk_verifier.specs.declared.answers.Fault.{Fault}
+use Rattle.vk_judge.specs.declared.answers.Fault.{Fault}
 use Rattle.vk_verifier.specs.declared.answers.BoardVerdict.{BoardVerdict}
 use Rattle.vk_verifier.specs.declared.answers.BoardVerdict.TheVariants.{Accepted, Malformed, Price, Winner, Lanes, Wire, Row}
-use Rattle.vk_verifier.specs.declared.answers.VErr.{VErr}
-use Rattle.vk_verifier.specs.declared.named.TwoReplies.{TwoReplies}
-use Rattle.vk_verifier.specs.declared.stage.TwoLane.{TwoLane}
-use Rattle.vk_verifier.specs.declared.stage.Finding.{Finding}
-use Rattle.vk_verifier.specs.declared.stage.Finding.TheVariants as finding
-use Rattle.vk_verifier.specs.declared.stage.Base.{Base}
+use Rattle.vk_judge.specs.declared.answers.VErr.{VErr}
+use Rattle.vk_judge.specs.declared.stage.TwoLane.{TwoLane}
+use Rattle.vk_judge.specs.declared.stage.Finding.{Finding}
+use Rattle.vk_judge.specs.declared.stage.Finding.TheVariants as finding
+use Rattle.vk_judge.specs.declared.stage.Base.{Base}
 use Rattle.vk_verifier.specs.declared.two_boards.BoardCourse.{BoardCourse}
 use Rattle.vk_verifier.specs.declared.two_boards.BoardStage.{BoardStage}
 use Rattle.vk_verifier.specs.declared.two_boards.BoardStage.TheVariants.{Refused, Behind}
-use Rattle.vk_verifier.specs.Statement.{StatementValue}
-use Rattle.vk_verifier.specs.Verdicts.{as_verdict, front_judged, statement_of, begun_file}
-use Rattle.vk_verifier.specs.Two.{Ahead, IsStage, IsNextLane, accepted_of, ahead_behind, ahead_of, base_behind, base_in, base_of, finding_of, given_of, over, second_part, with_lane}
+use Rattle.vk_judge.specs.Statement.{StatementValue}
+use Rattle.vk_verifier.specs.Verdicts.{as_verdict, front_judged, statement_of}
+use Rattle.vk_judge.specs.Two.{Ahead, IsStage, IsNextLane, accepted_of, ahead_behind, ahead_of, base_behind, base_in, base_of, finding_of, given_of, over, second_part, with_lane}
+use Rattle.vk_judge.specs.Begun.{of_files}
 
 -- ---- the finding
 
@@ -102,26 +99,6 @@ base_past (Err verdict) first_challenge first_reply second_challenge second_repl
 
 abbrev pub base_at : Rest → Rest → Rest → Rest → Rest → Option BoardBase
 base_at board = base_past (front_judged board)
-
--- what five named files come to from their first lines on; or the first of them, in this order,
--- that is missing or too long
-abbrev pub of_files : {X : Type 0} → (Rest → Rest → Rest → Rest → Rest → X) → Files → List ℕ
-    → List ℕ → List ℕ → List ℕ → List ℕ → Result X VErr
-of_files whole files board first_challenge first_reply second_challenge second_reply = do
-  board ← begun_file part.Board (get files board)
-  first_challenge ← begun_file part.Challenge (get files first_challenge)
-  first_reply ← begun_file part.Reply (get files first_reply)
-  second_challenge ← begun_file part.SecondChallenge (get files second_challenge)
-  second_reply ← begun_file part.SecondReply (get files second_reply)
-  Ok (whole board first_challenge first_reply second_challenge second_reply)
-
-abbrev pub five_rests : Rest → Rest → Rest → Rest → Rest → Rest × Rest × Rest × Rest × Rest
-five_rests board first_challenge first_reply second_challenge second_reply =
-    (board, first_challenge, first_reply, second_challenge, second_reply)
-
-abbrev pub named_rests : Files → TwoReplies → Result (Rest × Rest × Rest × Rest × Rest) VErr
-named_rests files names = of_files five_rests files names.board.now names.challenge1.now
-    names.reply1.now names.challenge2.now names.reply2.now
 
 -- what is given and found of the named files
 unfoldable pub two_on : Files → List ℕ → List ℕ → List ℕ → List ℕ → List ℕ

@@ -1,26 +1,23 @@
 -- The verdict on a board, a challenge and a reply: the first test that fails.
-use Rattle.std.specs.Prelude.{ℕ, ◌^◌, nat_lt, if◌then◌else◌, List, length, Option, Some, None, Result, Ok, Err}
-use Rattle.std.specs.FinMap.{get}
+use Rattle.std.specs.Prelude.{ℕ, List, Result, Ok, Err}
 use Rattle.vk_residue.specs.Steps.{◌>>=◌}
 use Rattle.vk_io.specs.Files.{Files}
-use Rattle.vk_lines.specs.Lines.{Rest, rest_of}
+use Rattle.vk_lines.specs.Lines.{Rest}
 use Rattle.vk_plan.specs.Plans.{PlanValue}
 use Rattle.vk_board.specs.declared.front.Front.{Front}
 use Rattle.vk_board.specs.Fronts.{FrontFault, front_at}
 use Rattle.vk_board.specs.Fronts as fronts
 use Rattle.vk_vickrey.specs.Sales.{sale_at}
 use Rattle.vk_vickrey.specs.BoardPlans.{BoardNumbers, board_numbers, board_plan}
-use Rattle.vk_verifier.specs.declared.answers.Part.{Part}
-use Rattle.vk_verifier.specs.declared.answers.Part.TheVariants as part
-use Rattle.vk_verifier.specs.declared.answers.Fault.{Fault}
-use Rattle.vk_verifier.specs.declared.answers.Fault.TheVariants as behind
+use Rattle.vk_judge.specs.declared.answers.Part.TheVariants as part
+use Rattle.vk_judge.specs.declared.answers.Fault.{Fault}
+use Rattle.vk_judge.specs.declared.answers.Fault.TheVariants as behind
 use Rattle.vk_verifier.specs.declared.answers.BoardVerdict.{BoardVerdict}
 use Rattle.vk_verifier.specs.declared.answers.BoardVerdict.TheVariants.{Accepted, Malformed, Price, Winner, Lanes, Wire, Row}
-use Rattle.vk_verifier.specs.declared.answers.VErr.{VErr}
-use Rattle.vk_verifier.specs.declared.answers.VErr.TheVariants as verr
-use Rattle.vk_verifier.specs.declared.stage.Attempt.{Attempt}
-use Rattle.vk_verifier.specs.Statement.{StatementValue}
-use Rattle.vk_verifier.specs.Behind.{behind_judged}
+use Rattle.vk_judge.specs.declared.answers.VErr.{VErr}
+use Rattle.vk_judge.specs.Statement.{StatementValue}
+use Rattle.vk_judge.specs.Behind.{behind_judged}
+use Rattle.vk_judge.specs.Begun.{from_start, of_attempt}
 
 -- ---- the front
 
@@ -81,48 +78,12 @@ abbrev pub verdict_by : Result Unit BoardVerdict → BoardVerdict
 verdict_by (Ok done) = Accepted
 verdict_by (Err verdict) = verdict
 
--- a file from its first line on
-abbrev pub from_start : List ℕ → Rest
-from_start bytes = record { taken = 0; left = bytes }
-
 -- the verdict on the bytes of a board, a challenge and a reply
 abbrev pub verdict_of : List ℕ → List ℕ → List ℕ → BoardVerdict
 verdict_of board challenge reply =
     verdict_by (judged (from_start board) (from_start challenge) (from_start reply))
 
 -- ---- files on a shelf
-
--- the fault that a refusal tells: which file is missing or too long
-abbrev pub unread_file : VErr → Option VErr
-unread_file (verr.Missing file) = Some (verr.Missing file)
-unread_file (verr.TooLong file) = Some (verr.TooLong file)
-unread_file verr.Failed = None
-unread_file verr.NoMemory = None
-
--- a file from its first line on, where it is held and has at most 2^30 bytes
-abbrev pub begun_file : Part → Option (List ℕ) → Result Rest VErr
-begun_file file None = Err (verr.Missing file)
-begun_file file (Some bytes) = if nat_lt (2 ^ 30) (length bytes) then Err (verr.TooLong file)
-    else Ok (from_start bytes)
-
--- what three named files come to from their first lines on; or the first of them, in this order,
--- that is missing or too long
-abbrev pub of_attempt : {X : Type 0} → (Rest → Rest → Rest → X) → Files → List ℕ → List ℕ → List ℕ
-    → Result X VErr
-of_attempt whole files file challenge reply = do
-  file ← begun_file part.Board (get files file)
-  challenge ← begun_file part.Challenge (get files challenge)
-  reply ← begun_file part.Reply (get files reply)
-  Ok (whole file challenge reply)
-
--- what they come to for the readers of them
-abbrev pub of_begun : {X : Type 0} → (Rest → Rest → Rest → X) → Attempt → Files → X
-of_begun whole attempt files =
-    whole (rest_of attempt.pair.board files) (rest_of attempt.challenge files)
-    (rest_of attempt.pair.reply files)
-
-abbrev pub three_rests : Rest → Rest → Rest → Rest × Rest × Rest
-three_rests file challenge reply = (file, challenge, reply)
 
 -- the verdict on the named files
 unfoldable pub verdict_on : Files → List ℕ → List ℕ → List ℕ → Result BoardVerdict VErr

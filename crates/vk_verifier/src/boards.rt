@@ -4,22 +4,19 @@ ghost use Rattle.vk_io.specs.Faults.{Causes};
 ghost use Rattle.vk_lines.specs.Lines.{OnlyReads, Rest};
 ghost use Rattle.vk_lines.specs.Gives.{Gives};
 ghost use Rattle.vk_board.specs.Fronts.{FrontFault, IsFront, fault_of};
-ghost use Rattle.vk_verifier.specs.declared.answers.Fault.{Fault};
+ghost use Rattle.vk_judge.specs.declared.answers.Fault.{Fault};
 ghost use Rattle.vk_verifier.specs.declared.answers.BoardVerdict.{BoardVerdict};
-ghost use Rattle.vk_verifier.specs.Behind.{Judges};
-ghost use Rattle.vk_verifier.specs.Parts.{behind_in_parts};
-ghost use Rattle.vk_verifier.specs.Verdicts.{in_board, in_front, judged, of_begun, plan_of, statement_of, unread_file, verdict_by, verdict_on};
+ghost use Rattle.vk_judge.specs.Behind.{Judges};
+ghost use Rattle.vk_judge.specs.Parts.{behind_in_parts};
+ghost use Rattle.vk_judge.specs.Begun.{of_begun, unread_file};
+ghost use Rattle.vk_verifier.specs.Verdicts.{in_board, in_front, judged, plan_of, statement_of, verdict_by, verdict_on};
 ghost use Rattle.vk_verifier.specs.Answers.{board_answer, front_answer, verdict_answer};
 
-use crate::answers::{BoardVerdict, Fault, Part, VErr};
-use crate::halt::Halt;
-use crate::judging::judge_behind;
-use crate::named::OneReply;
-use crate::stage::Attempt;
-use crate::statement::Statement;
+use crate::answers::BoardVerdict;
 use std::alloc::Global;
 use vk_board::{Front, FrontErr, read_front};
 use vk_io::Shelf;
+use vk_judge::{Attempt, Fault, Halt, OneReply, Part, Statement, VErr, judge_behind};
 use vk_lines::ReadErr;
 use vk_plan::{Circuit, Plan};
 use vk_residue::NoMemory;
@@ -114,7 +111,7 @@ fn judge_lanes<S: Shelf>(
 }
 
 /// Judges the files, from their first lines to their ends.
-#[tactic(auto, using(crate::proofs::Joined::behind_parts), unfolding(crate::specs::Verdicts::judged))]
+#[tactic(auto, using(vk_judge::proofs::Joined::behind_parts), unfolding(crate::specs::Verdicts::judged))]
 fn judge<S: Shelf>(
     alloc: Global,
     shelf: &mut S,

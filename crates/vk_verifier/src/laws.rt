@@ -1,7 +1,7 @@
-//! What a verdict means, of any statement and of a board.
+//! What a verdict on a board means.
 
 ghost use Rattle.vk_verifier.specs.Acceptance.{AcceptedExactly};
-ghost use Rattle.vk_verifier.specs.Refusals.{BehindIsExact, VerdictsAreExact};
+ghost use Rattle.vk_verifier.specs.Refusals.{VerdictsAreExact};
 
 /// A law: a board, a challenge and a reply have no fault exactly where they are the texts of such,
 /// and the reply is accepted.
@@ -14,11 +14,4 @@ pub fn a_verdict_accepts_what_is_accepted()
 /// before it is right and accepted.
 pub fn verdicts_are_given_exactly_where_they_hold()
     ensures { VerdictsAreExact }
-{}
-
-/// A law of every statement and every front: what is judged behind it is passed exactly where the
-/// files are the texts of such and the reply is accepted, and refused with a fault exactly where
-/// that fault holds.
-pub fn what_is_judged_behind_a_front_is_exact()
-    ensures { BehindIsExact }
 {}

@@ -7,22 +7,22 @@ ghost use Rattle.vk_board.specs.declared.front.Front.{Front};
 ghost use Rattle.vk_board.specs.Fronts.{IsFront};
 ghost use Rattle.vk_verifier.specs.declared.answers.BoardVerdict.{BoardVerdict};
 ghost use Rattle.vk_verifier.specs.declared.two_boards.BoardStage.TheVariants.{Behind};
-ghost use Rattle.vk_verifier.specs.Wanting.{MemoryWasWanting};
-ghost use Rattle.vk_verifier.specs.Behind.{Judges};
-ghost use Rattle.vk_verifier.specs.Verdicts.{plan_of, unread_file};
-ghost use Rattle.vk_verifier.specs.Two.{BothAreAccepted, IsNextLane, IsOver, given_of, of_two};
+ghost use Rattle.vk_judge.specs.Wanting.{MemoryWasWanting};
+ghost use Rattle.vk_judge.specs.Behind.{Judges};
+ghost use Rattle.vk_judge.specs.Begun.{unread_file};
+ghost use Rattle.vk_verifier.specs.Verdicts.{plan_of};
+ghost use Rattle.vk_judge.specs.Two.{BothAreAccepted, IsNextLane, IsOver, given_of, of_two};
 ghost use Rattle.vk_verifier.specs.TwoBoards.{BoardGoesOn, HasFrontRead, IsBoardCourse, IsBoardOver, IsNextOfBoard, ahead_at, ahead_past, as_two, base_at, base_on, base_past, board_ahead, board_base, board_finding, board_given, course_or, two_on};
 
-use crate::answers::{BoardVerdict, Fault, VErr};
+use crate::answers::{BoardVerdict, TwoVerdict};
 use crate::boards::{in_front, statement_of};
-use crate::halt::{Halt, known};
-use crate::named::TwoReplies;
-use crate::stage::{Finding, TwoAttempts, TwoLane, TwoVerdict};
-use crate::two::LaneChecker;
 use std::alloc::Global;
 use std::marker::Model;
 use vk_board::{Front, Head, read_front};
 use vk_io::{OutsideErr, Shelf};
+use vk_judge::{
+    Fault, Finding, Halt, LaneChecker, TwoAttempts, TwoLane, TwoReplies, VErr, known,
+};
 use vk_plan::Plan;
 
 /// A board whose lanes are read beside two replies: its head, the place of the winner's seal, from
@@ -65,7 +65,7 @@ impl TwoChecker {
     /// Begins the files, and reads the board before its first lane, both challenges and the heads
     /// of both replies. Errs where a file is missing or longer than 2^30 bytes, and names the first
     /// that is, in the order of the names; where the shelf fails; and for want of memory.
-    #[tactic(auto, using(crate::proofs::Attempts::two_on_begun, crate::proofs::Attempts::base_on_begun, crate::specs::Wanting::memory_was_wanting))]
+    #[tactic(auto, using(crate::proofs::Attempts::two_on_begun, crate::proofs::Attempts::base_on_begun, vk_judge::specs::Wanting::memory_was_wanting))]
     pub fn start<S: Shelf>(
         alloc: Global,
         shelf: &mut S,

@@ -3,7 +3,8 @@ use std::test::Fail;
 use vk_io::{OutsideErr, Shelf};
 use vk_lines::{Lines, StartErr, Step};
 use vk_report::{ReportErr, read_report};
-use vk_verifier::{Part, TwoChecker, VErr, verdict};
+use vk_judge::{Part, VErr};
+use vk_verifier::{TwoChecker, verdict};
 
 /// A shelf whose every file has a length and no bytes.
 #[derive(Drop)]

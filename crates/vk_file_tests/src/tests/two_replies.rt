@@ -7,7 +7,8 @@ use std::alloc::Global;
 use std::process::Abort;
 use std::test::Fail;
 use vk_io::MemShelf;
-use vk_verifier::{BoardVerdict, Part, TwoChecker, TwoVerdict, VErr};
+use vk_judge::{Part, VErr};
+use vk_verifier::{BoardVerdict, TwoChecker, TwoVerdict};
 use vk_wire::WireFault;
 
 /// Why two replies aren't begun.

@@ -6,7 +6,7 @@ use std::process::Abort;
 use std::test::Fail;
 use vk_bids::{Extraction, LaneBids};
 use vk_io::MemShelf;
-use vk_verifier::{Fault, OneReply, Part, TwoReplies};
+use vk_judge::{Fault, OneReply, Part, TwoReplies};
 use vk_wire::WireFault;
 
 /// Whether the lane opens these numbers, in the order of the seals.

@@ -1,6 +1,6 @@
 use Rattle.std.proofs.Common.{IfSome, subst}
 use Rattle.vk_lines.specs.Gives.{Gives}
-use Rattle.vk_verifier.specs.Verdicts.{unread_file}
+use Rattle.vk_judge.specs.Begun.{unread_file}
 use Rattle.vk_bids.specs.Extraction.{Extraction, extraction_on}
 use Rattle.vk_words.specs.Names.{ExtractWords}
 use Rattle.vk_effect.proofs.Acting.{if_some_map}

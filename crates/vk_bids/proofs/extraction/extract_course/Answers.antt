@@ -2,8 +2,8 @@ use Rattle.std.proofs.Common.{◌∙◌, sym, ap}
 use Rattle.std.proofs.lemmas.Option.{IfSome_then}
 use Rattle.vk_board.specs.Fronts.{front_with}
 use Rattle.vk_board.specs.declared.front.Front.{Front}
-use Rattle.vk_verifier.specs.Statement.{StatementValue}
-use Rattle.vk_verifier.specs.Two.{ahead_of, base_of}
+use Rattle.vk_judge.specs.Statement.{StatementValue}
+use Rattle.vk_judge.specs.Two.{ahead_of, base_of}
 use Rattle.vk_bids.specs.Extraction.{extraction_with}
 use Rattle.vk_bids.proofs.Boards.{board_extraction, of_front, same_statement}
 use Rattle.vk_bids.proofs.extraction.extract_course.Goals as goal

@@ -1,7 +1,7 @@
 use Rattle.std.proofs.Common.{ap}
 use Rattle.vk_board.specs.Fronts.{front_with}
 use Rattle.vk_board.specs.declared.front.Front.{Front}
-use Rattle.vk_verifier.specs.Statement.{StatementValue}
+use Rattle.vk_judge.specs.Statement.{StatementValue}
 use Rattle.vk_bids.proofs.Boards.{opened_show}
 use Rattle.vk_bids.proofs.extraction.with_front.Goals as goal
 

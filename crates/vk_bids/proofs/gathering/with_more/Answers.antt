@@ -1,4 +1,4 @@
-use Rattle.vk_verifier.specs.Two.{base_of}
+use Rattle.vk_judge.specs.Two.{base_of}
 use Rattle.vk_bids.proofs.Shown.{by_statement}
 use Rattle.vk_bids.proofs.gathering.with_more.Goals as goal
 

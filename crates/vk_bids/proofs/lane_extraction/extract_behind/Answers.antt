@@ -1,4 +1,4 @@
-use Rattle.vk_verifier.specs.Two.{base_of}
+use Rattle.vk_judge.specs.Two.{base_of}
 use Rattle.vk_bids.proofs.Shown.{are_of}
 use Rattle.vk_bids.proofs.lane_extraction.extract_behind.Goals as goal
 

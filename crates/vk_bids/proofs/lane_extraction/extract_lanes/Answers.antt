@@ -1,4 +1,4 @@
-use Rattle.vk_verifier.specs.Two.{ahead_of, base_of, finding_of}
+use Rattle.vk_judge.specs.Two.{ahead_of, base_of, finding_of}
 use Rattle.vk_bids.proofs.Leading.{both_told, concluded}
 use Rattle.vk_bids.proofs.lane_extraction.extract_lanes.Goals as goal
 

@@ -1,7 +1,7 @@
 use Rattle.std.proofs.Common.{◌≡◌, ◌∙◌, All, IfOk, IfSome, Option, subst, sym}
-use Rattle.vk_verifier.specs.declared.stage.Base.{Base}
-use Rattle.vk_verifier.specs.declared.stage.TwoLane.{TwoLane}
-use Rattle.vk_verifier.specs.Two.{GoesOn, IsNextLane, ahead_of, base_of, given_of}
+use Rattle.vk_judge.specs.declared.stage.Base.{Base}
+use Rattle.vk_judge.specs.declared.stage.TwoLane.{TwoLane}
+use Rattle.vk_judge.specs.Two.{GoesOn, IsNextLane, ahead_of, base_of, given_of}
 use Rattle.vk_bids.specs.Gathering.{added}
 use Rattle.vk_bids.specs.Opening.{LaneOpens}
 use Rattle.vk_bids.proofs.Leading.{both_held, both_told, leads_last, leads_on}

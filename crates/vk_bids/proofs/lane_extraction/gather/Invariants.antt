@@ -1,6 +1,6 @@
 use Rattle.std.proofs.Common.{◌≡◌, ◌-◌, IfSome}
 use Rattle.std.specs.Prelude.{All, IfOk}
-use Rattle.vk_verifier.specs.Two.{ahead_of, base_of, given_of}
+use Rattle.vk_judge.specs.Two.{ahead_of, base_of, given_of}
 use Rattle.vk_bids.specs.Opening.{LaneOpens}
 use Rattle.vk_bids.proofs.Leading.{Leads}
 use Rattle.vk_bids.proofs.lane_extraction.gather.Given as goal

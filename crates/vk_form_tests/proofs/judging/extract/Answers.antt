@@ -1,9 +1,9 @@
 use Rattle.std.proofs.Common.{rules}
 use Rattle.std.specs.FinMap.{get}
 use Rattle.vk_lines.specs.Lines.{rest_of}
-use Rattle.vk_verifier.specs.Two.{of_two}
-use Rattle.vk_verifier.specs.TwoBoards.{five_rests}
-use Rattle.vk_verifier.proofs.Attempts.{file_begun}
+use Rattle.vk_judge.specs.Two.{of_two}
+use Rattle.vk_judge.specs.Begun.{five_rests}
+use Rattle.vk_judge.proofs.Attempts.{file_begun}
 use Rattle.vk_bids.proofs.Leading.{both_held}
 use Rattle.vk_form_tests.specs.Forms.{IsSumHead}
 use Rattle.vk_form_tests.proofs.Opening.{read_known, sums_of_begun, sums_of_file, sums_opened}

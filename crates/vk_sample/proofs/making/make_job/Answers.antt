@@ -1,7 +1,7 @@
 use Rattle.std.proofs.Common.{rules}
-use Rattle.vk_sample.specs.Auctions.{auction_by, auction_of}
-use Rattle.vk_sample.proofs.Auctions.{all_rows, is_auction}
-use Rattle.vk_sample.proofs.Rows.{job_made, rows_refused}
+use Rattle.vk_sample_parts.specs.Auctions.{auction_by, auction_of}
+use Rattle.vk_sample_parts.proofs.Auctions.{all_rows, is_auction}
+use Rattle.vk_sample_parts.proofs.Rows.{job_made, rows_refused}
 use Rattle.vk_sample.proofs.making.make_job.Goals as goal
 
 pub of-requires-clause-right : goal.of-requires-clause-right

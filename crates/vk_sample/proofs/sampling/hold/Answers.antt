@@ -4,7 +4,8 @@ use Rattle.std.proofs.lemmas.Result.{err_from_is_err_and}
 use Rattle.vk_board.specs.declared.board.Head.{Head}
 use Rattle.vk_job.specs.Published.{head_of}
 use Rattle.vk_effect.specs.Effects.{stores}
-use Rattle.vk_sample.proofs.Acting.{holding_acts, reads_back, stopped_first, writing_stopped}
+use Rattle.vk_sample_parts.proofs.Acting.{holding_acts, stopped_first, writing_stopped}
+use Rattle.vk_sample.proofs.Acting.{reads_back}
 use Rattle.vk_sample.proofs.Auctions.{auction_is}
 use Rattle.vk_sample.proofs.Opened.{opens_all}
 use Rattle.vk_sample.specs.Texts.{files_of, made_text, read_said, sample_read, summary_said}

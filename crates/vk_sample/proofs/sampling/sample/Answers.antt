@@ -3,10 +3,13 @@ use Rattle.std.proofs.lemmas.Result.{err_from_is_err_and}
 use Rattle.vk_job.specs.Published.{head_of}
 use Rattle.vk_effect.specs.Effects.{stores}
 use Rattle.vk_effect.proofs.Acting.{if_some_map}
-use Rattle.vk_sample.specs.Auctions.{auction_of, dry_of}
-use Rattle.vk_sample.specs.Samples.{sample_on, modelled_effect}
-use Rattle.vk_sample.specs.Texts.{dry_said, files_of, summary_said}
-use Rattle.vk_sample.proofs.Acting.{dry_acts, same_said, sample_acts, stopped_first}
+use Rattle.vk_sample_parts.specs.Auctions.{auction_of, dry_of}
+use Rattle.vk_sample_parts.specs.Effects.{modelled_effect}
+use Rattle.vk_sample.specs.Samples.{sample_on}
+use Rattle.vk_sample_parts.specs.Texts.{dry_said}
+use Rattle.vk_sample.specs.Texts.{files_of, summary_said}
+use Rattle.vk_sample_parts.proofs.Acting.{dry_acts, same_said, stopped_first}
+use Rattle.vk_sample.proofs.Acting.{sample_acts}
 use Rattle.vk_sample.proofs.sampling.sample.Goals as goal
 
 pub returns-in_err-sample-clause-acts : goal.returns-in_err-sample-clause-acts

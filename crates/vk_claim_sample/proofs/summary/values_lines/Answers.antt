@@ -1,4 +1,0 @@
-use Rattle.vk_claim_sample.proofs.summary.values_lines.Goals as goal
-
-pub returns : goal.returns
-returns c = rw (c.same_count-same.ensures, c.as_slice-lanes.ensures) at c.in_ok-text.ensures

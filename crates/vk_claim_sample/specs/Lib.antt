@@ -1,4 +1,0 @@
-pub mod Claims
-pub mod Texts
-pub mod ClaimSamples
-pub mod Laws

@@ -1,0 +1,89 @@
+-- What named files come to, from what is read of their first lines on.
+use Rattle.std.proofs.Common.{◌≡◌, ℕ, List, Result, Ok, Err, refl, ap}
+use Rattle.std.specs.FinMap.{get}
+use Rattle.vk_residue.specs.Steps.{◌>>=◌}
+use Rattle.vk_io.specs.Files.{Files}
+use Rattle.vk_lines.specs.Lines.{Rest}
+use Rattle.vk_judge.specs.declared.answers.Part.TheVariants as part
+use Rattle.vk_judge.specs.declared.answers.VErr.{VErr}
+use Rattle.vk_judge.specs.Begun.{five_rests, of_files}
+use Rattle.vk_judge.specs.Begun.{begun_file, of_attempt, three_rests}
+use Rattle.vk_judge.proofs.Steps.{value_same}
+
+pub attempt_begun : {X : Type 0} (whole : Rest → Rest → Rest → X) (files : Files)
+    (file challenge reply : List ℕ)
+    → of_attempt whole files file challenge reply
+    ≡ (of_attempt three_rests files file challenge reply >>= λ rests.
+    Ok (whole rests.0 rests.1 rests.2))
+attempt_begun whole files file challenge reply =
+    by_three (begun_file part.Board (get files file))
+    (begun_file part.Challenge (get files challenge)) (begun_file part.Reply (get files reply))
+  where
+    by_three : (a b c : Result Rest VErr)
+        → (a >>= λ a. b >>= λ b. c >>= λ c. Ok (whole a b c))
+        ≡ ((a >>= λ a. b >>= λ b. c >>= λ c. Ok (three_rests a b c)) >>= λ rests.
+        Ok (whole rests.0 rests.1 rests.2))
+    by_three (Err fault) b c = refl
+    by_three (Ok a) (Err fault) c = refl
+    by_three (Ok a) (Ok b) (Err fault) = refl
+    by_three (Ok a) (Ok b) (Ok c) = refl
+
+-- ---- two replies
+
+pub files_begun : {X : Type 0} (whole : Rest → Rest → Rest → Rest → Rest → X) (files : Files)
+    (board first_challenge first_reply second_challenge second_reply : List ℕ)
+    → of_files whole files board first_challenge first_reply second_challenge second_reply
+    ≡ (of_files five_rests files board first_challenge first_reply second_challenge second_reply >>=
+    λ rests. Ok (whole rests.0 rests.1 rests.2 rests.3 rests.4))
+files_begun whole files board first_challenge first_reply second_challenge second_reply =
+    by_five (begun_file part.Board (get files board))
+    (begun_file part.Challenge (get files first_challenge))
+    (begun_file part.Reply (get files first_reply))
+    (begun_file part.SecondChallenge (get files second_challenge))
+    (begun_file part.SecondReply (get files second_reply))
+  where
+    by_five : (a b c d e : Result Rest VErr)
+        → (a >>= λ a. b >>= λ b. c >>= λ c. d >>= λ d. e >>= λ e. Ok (whole a b c d e))
+        ≡ ((a >>= λ a. b >>= λ b. c >>= λ c. d >>= λ d. e >>= λ e. Ok (five_rests a b c d e)) >>=
+        λ rests. Ok (whole rests.0 rests.1 rests.2 rests.3 rests.4))
+    by_five (Err fault) b c d e = refl
+    by_five (Ok a) (Err fault) c d e = refl
+    by_five (Ok a) (Ok b) (Err fault) d e = refl
+    by_five (Ok a) (Ok b) (Ok c) (Err fault) e = refl
+    by_five (Ok a) (Ok b) (Ok c) (Ok d) (Err fault) = refl
+    by_five (Ok a) (Ok b) (Ok c) (Ok d) (Ok e) = refl
+
+-- the first of them is begun where all are
+pub file_begun : (files : Files)
+    (board first_challenge first_reply second_challenge second_reply : List ℕ)
+    (rests : Rest × Rest × Rest × Rest × Rest)
+    → of_files five_rests files board first_challenge first_reply second_challenge second_reply
+    ≡ Ok rests → begun_file part.Board (get files board) ≡ Ok rests.0
+file_begun files board first_challenge first_reply second_challenge second_reply rests ok =
+    bind_first (begun_file part.Board (get files board))
+    (λ a. begun_file part.Challenge (get files first_challenge) >>= λ b. begun_file part.Reply
+    (get files first_reply) >>= λ c. begun_file part.SecondChallenge
+    (get files second_challenge) >>= λ d. begun_file part.SecondReply (get files second_reply)
+    >>= λ e. Ok (five_rests a b c d e))
+    (λ a. four a (begun_file part.Challenge (get files first_challenge))
+    (begun_file part.Reply (get files first_reply))
+    (begun_file part.SecondChallenge (get files second_challenge))
+    (begun_file part.SecondReply (get files second_reply))) ok
+  where
+    four : (a : Rest) (b c d e : Result Rest VErr)
+        → (b >>= λ b. c >>= λ c. d >>= λ d. e >>= λ e. Ok (five_rests a b c d e)) ≡ Ok rests
+        → a ≡ rests.0
+    four a (Err fault) c d e ok = cc
+    four a (Ok b) (Err fault) d e ok = cc
+    four a (Ok b) (Ok c) (Err fault) e ok = cc
+    four a (Ok b) (Ok c) (Ok d) (Err fault) ok = cc
+    four a (Ok b) (Ok c) (Ok d) (Ok e) ok =
+        ap (λ (r : Rest × Rest × Rest × Rest × Rest). r.0)
+        (value_same (five_rests a b c d e) rests ok)
+
+    bind_first : (r : Result Rest VErr)
+        (next : Rest → Result (Rest × Rest × Rest × Rest × Rest) VErr)
+        → ((a : Rest) → next a ≡ Ok rests → a ≡ rests.0)
+        → (r >>= next) ≡ Ok rests → r ≡ Ok rests.0
+    bind_first (Err fault) next is ok = cc
+    bind_first (Ok a) next is ok = ap (λ a. Ok a) (is a ok)

@@ -1,0 +1,11 @@
+pub mod Statement
+pub mod Behind
+pub mod Begun
+pub mod Parts
+pub mod Two
+pub mod Answers
+pub mod TwoLaw
+pub mod Acceptance
+pub mod TwoValues
+pub mod Refusals
+pub mod Wanting

@@ -1,0 +1,29 @@
+//! What is judged of files whose lanes are sealed, behind a front of any form: of one reply, and of
+//! two side by side.
+#![tactic(auto)]
+
+mod answers;
+mod halt;
+mod judging;
+mod lane;
+mod laws;
+mod named;
+mod stage;
+mod statement;
+mod two;
+mod two_halt;
+mod two_lane;
+mod two_laws;
+
+pub use answers::{Fault, Part, VErr};
+pub use halt::{Halt, in_part, known};
+pub use judging::judge_behind;
+pub use laws::what_is_judged_behind_a_front_is_exact;
+pub use named::{OneReply, TwoReplies};
+pub use stage::{Attempt, Base, FileAndReply, Finding, Stage, TwoAttempts, TwoLane, TwoReaders};
+pub use statement::Statement;
+pub use two::LaneChecker;
+pub use two_laws::{
+    a_finding_is_by_judging_both, only_replies_accepted_behind_a_front_are_found_to_be,
+    replies_accepted_behind_a_front_give_their_values,
+};

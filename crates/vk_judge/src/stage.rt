@@ -1,0 +1,94 @@
+// How far two replies were read behind a front.
+use crate::answers::Fault;
+use crate::statement::Statement;
+use vk_lines::Lines;
+use vk_row::LaneCase;
+use vk_seq::Seq;
+use vk_wire::Shown;
+
+/// One lane: all that is public of it, and what each of two replies shows of it for its bit.
+#[derive(Debug, Drop)]
+pub struct TwoLane {
+    pub case: LaneCase,
+    pub first_bit: bool,
+    pub first: Seq<Shown>,
+    pub second_bit: bool,
+    pub second: Seq<Shown>,
+}
+
+/// What two replies come to.
+#[derive(Clone, Copy, Debug, PartialEq, Eq)]
+pub enum Finding<V> {
+    /// Why the first reply is refused, where it is, else why the second is. What is said of the
+    /// second names the second challenge or the second reply in place of a first one.
+    Refused { second: bool, verdict: V },
+    /// Both replies are accepted, and the challenges' bits are the same.
+    Same,
+    /// Both replies are accepted, and the challenges differ in a bit.
+    Ready,
+}
+
+/// A file and a reply, each from where it is to be read on.
+#[derive(Drop)]
+pub struct FileAndReply {
+    pub board: Lines,
+    pub reply: Lines,
+}
+
+/// The lanes that are left to judge: of which statement, after how many, and the challenge's bits
+/// of all its lanes.
+#[derive(Drop)]
+pub struct LanesLeft<'a> {
+    pub statement: &'a Statement,
+    pub judged: u32,
+    pub bits: &'a [bool],
+}
+
+/// A file, a challenge and the reply to it, each from where it is to be read on.
+#[derive(Drop)]
+pub struct Attempt {
+    pub challenge: Lines,
+    pub pair: FileAndReply,
+}
+
+/// What was read before the first lane: the statement of the front, and the bits of both
+/// challenges.
+#[derive(Drop)]
+pub struct Base {
+    pub statement: Statement,
+    pub first_bits: Seq<bool>,
+    pub second_bits: Seq<bool>,
+}
+
+/// The file with the first reply, and the second reply, each from where it is to be read on.
+#[derive(Drop)]
+pub struct TwoReaders {
+    pub pair: FileAndReply,
+    pub second: Lines,
+}
+
+/// A file, a challenge and the reply to it, and another challenge and the reply to that, each from
+/// where it is to be read on.
+#[derive(Drop)]
+pub struct TwoAttempts {
+    pub first_challenge: Lines,
+    pub second_challenge: Lines,
+    pub readers: TwoReaders,
+}
+
+/// How many lanes were given, and what was found, where no lane is to be given any more.
+#[derive(Drop)]
+pub struct Course {
+    pub base: Base,
+    pub readers: TwoReaders,
+    pub given: u32,
+    pub finding: Option<Finding<Fault>>,
+}
+
+/// How far two replies were read.
+#[derive(Drop)]
+pub enum Stage {
+    /// There is a fault before the first lane.
+    Before(Finding<Fault>),
+    Running(Course),
+}

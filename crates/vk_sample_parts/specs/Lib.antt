@@ -1,0 +1,4 @@
+pub mod Auctions
+pub mod Texts
+pub mod Written
+pub mod Effects

@@ -1,5 +1,0 @@
-use Rattle.vk_verifier.proofs.TwoLaw.{finds_by_judging}
-use Rattle.vk_verifier.proofs.two_laws.a_finding_is_by_judging_both.Goals as goal
-
-pub returns : goal.returns
-returns c = finds_by_judging
