@@ -29,4 +29,4 @@ pub use laws::{
     accepted_replies_open_values_or_clash,
 };
 pub use printing::{extraction_lines, has_one_bid, sale_line};
-pub use vk_verifier::TwoReplies;
+pub use vk_judge::TwoReplies;
