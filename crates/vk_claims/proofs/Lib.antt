@@ -7,7 +7,7 @@ pub mod Cases
 pub mod Sales
 pub mod Matchings
 pub mod Shown
-pub mod Circuits
+pub mod ByKind
 pub mod Proofs
 pub mod Sizes
 pub mod Opened

@@ -10,7 +10,7 @@ use Rattle.vk_claim.specs.Values.{AreNumbers}
 use Rattle.vk_report.specs.declared.sample.SampleCase.{SampleCase}
 use Rattle.vk_report.specs.Samples.{IsCaseOf}
 use Rattle.vk_words.specs.declared.claim.ClaimKind.TheVariants.{Matching}
-use Rattle.vk_claims.proofs.Circuits.{IsOfKind}
+use Rattle.vk_claims.proofs.ByKind.{IsOfKind}
 use Rattle.vk_claims.specs.Claims.{IsMatchingOf, couples, sizes_of}
 
 module _ (case : SampleCase) (is : IsCaseOf (sizes_of Matching) case) (matching : List ℕ) (permutes : IsPermutation couples matching) (stable : IsStable couples case.bids matching) where

@@ -1,7 +1,7 @@
 use Rattle.std.proofs.Common.{length, ap, sym, ◌∙◌}
 use Rattle.vk_uniform.specs.UniformPlans.{uniform_plan, uniform_values}
 use Rattle.vk_claims.specs.Circuits.{plan_of}
-use Rattle.vk_claims.proofs.Circuits.{claims, gives}
+use Rattle.vk_claims.proofs.ByKind.{claims, gives}
 use Rattle.vk_claims.proofs.Matchings as matching
 use Rattle.vk_claims.proofs.Sales as sale
 use Rattle.vk_claims.specs.Claims.{kind_in, values_of}
