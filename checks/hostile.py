@@ -1,5 +1,6 @@
 #!/usr/bin/env python3
-"""hostile.py PROGRAM [--seed WORD] [--quick] [--only TABLE] [--no-closed] [--workers N] [--keep FOLDER]
+"""hostile.py PROGRAM [--seed WORD] [--quick] [--only TABLE] [--of NAME,..] [--no-closed]
+    [--workers N] [--keep FOLDER]
 
 Attacks the built program: hostile files, hostile places, and a fault of the outside at each of its
 calls. After each run it asks for one of these, and for nothing else:
@@ -16,7 +17,8 @@ calls. After each run it asks for one of these, and for nothing else:
 It prints a table, and what differs from what is defined. What files are and what is said of them
 stands, once more, in checks/attack/reference.py. It is no part of the gate; it wants Linux, gcc and
 Python 3. The seed decides all that is drawn. --quick takes a sample of each table, and --only one
-table; --no-closed leaves out closed standard streams, in the place of which node opens /dev/null;
+table; --of attacks these commands alone, in the tables memory, limits, calls, interrupted and
+killed; --no-closed leaves out closed standard streams, in the place of which node opens /dev/null;
 --keep keeps the changed files that show a difference.
 """
 import argparse
@@ -86,7 +88,12 @@ def say_skipped(attack):
 
 def attack_all(arguments, folder):
     made = set_out(arguments, folder)
-    attack = Attack(made, attacked(made), random.Random(), arguments.quick, arguments.no_closed)
+    names = arguments.of.split(",") if arguments.of else []
+    attack = Attack(made, attacked(made), random.Random(), arguments.quick, arguments.no_closed,
+                    names)
+    unknown = set(names) - {scenario.name for scenario in attack.scenarios()}
+    if unknown:
+        sys.exit(f"nothing that is attacked is called {', '.join(sorted(unknown))}")
     how = "a sample of each table" if arguments.quick else "whole tables"
     print(f"seed {arguments.seed}, {how}")
     print(f"{'table':<12} {'cases':>8} {'differ':>8}   statuses")
@@ -113,6 +120,7 @@ def main():
     parser.add_argument("--seed", default="1")
     parser.add_argument("--quick", action="store_true")
     parser.add_argument("--only", choices=[table.__name__ for table in TABLES])
+    parser.add_argument("--of", metavar="NAME,..")
     parser.add_argument("--no-closed", action="store_true")
     parser.add_argument("--workers", type=int, default=2)
     parser.add_argument("--keep")

@@ -9,17 +9,20 @@
 #   helpers   when a helper is started, be it perl or python3 (trials/helpers.js)
 #   hostile   checks/hostile.py where each call of the system fails, is interrupted or moves little,
 #             is a kill; full disks and outputs, odd names, places that can't be written; then the
-#             kills again, with the built program going on behind. QUICK= (yes) tries whole tables
+#             kills again, with the built program going on behind. Of each table it tries a sample,
+#             or with QUICK= all of it
+#   kills     a kill at every call of the first opening of a store, and of `submit`, `prove` and
+#             `answer`, behind which the built program goes on
 #   refused   what is refused: no helper for a lock, a damaged module, another system
 # Where none is named, all of them. The status is 0 where nothing fails.
 set -u
-[ $# -ge 2 ] || { sed -n '2,14s/^# //p' "$0"; exit 2; }
+[ $# -ge 2 ] || { sed -n '2,17s/^# //p' "$0"; exit 2; }
 here=$(realpath "$(dirname "$0")")
 top=$(dirname "$here")
 program=$(realpath "$1")
 vectors=$(realpath "$2")
 shift 2
-[ $# -gt 0 ] || set -- calls vectors program turns two helpers hostile refused
+[ $# -gt 0 ] || set -- calls vectors program turns two helpers hostile kills refused
 node=$(command -v node)
 work=$(mktemp -d)
 trap 'rm -rf "$work"' EXIT
@@ -106,6 +109,12 @@ hostile() {
     "$work/before-program" "${quick[@]}" --only killed
 }
 
+kills() {
+  launcher killed "$program"
+  note 'killed at every call' python3 "$top/checks/hostile.py" "$work/killed" --only killed \
+    --of announce,submit,prove,answer
+}
+
 # refusal STATUS TEXT COMMAND..: it ends so and says the text, and leaves no file but those of a store
 refusal() {
   local status=$1 text=$2 got
@@ -144,7 +153,7 @@ chmod 666 "$work/counter"
 wrapper turns "$here/trials/turns.sh" "$work/counter" "$program"
 for part; do
   case $part in
-    calls | vectors | program | turns | two | helpers | hostile | refused) $part ;;
+    calls | vectors | program | turns | two | helpers | hostile | kills | refused) $part ;;
     *) echo "test.sh: no part $part"; exit 2 ;;
   esac
 done

@@ -19,10 +19,15 @@ const PROCESSORS = ["x64", "arm64", "riscv64", "loong64"];
 const MODULE = path.join(__dirname, "vickrey.wasm.gz");
 const UNPACKED = 4 * 1024 * 1024; // room for it in one piece
 
-// When V8 compiles, which changes no answer: a function is looked at where it is first called, and
-// compiled well only once it was busy. Of versions that nobody tried none is set.
-const WHEN = ["--wasm-lazy-compilation", "--wasm-lazy-validation", "--wasm-tiering-budget=10000000"];
+// When V8 compiles, which changes no answer. A function is compiled where it is first called. But the
+// commands that open the store call half of the code: for these all is compiled beforehand, by several
+// processors at once, in half the time. Well compiled is only what was busy. Of versions that nobody
+// tried none is set.
+const WHEN_CALLED = ["--wasm-lazy-compilation", "--wasm-lazy-validation"];
+const BEFOREHAND = ["--no-wasm-lazy-compilation"];
+const ONCE_BUSY = "--wasm-tiering-budget=10000000";
 const TRIED = [18, 20];
+const WITH_STORE = ["announce", "submit", "prove", "answer", "show", "ceremony"];
 
 class NotHere extends Error {}
 
@@ -58,10 +63,11 @@ function moduleBytes() {
   }
 }
 
-// The module, compiled as far as that is done beforehand.
-function moduleHere() {
+// The module for these words, compiled as far as that is done beforehand.
+function moduleHere([, command = ""]) {
   if (TRIED.includes(version())) {
-    WHEN.forEach((flag) => v8.setFlagsFromString(flag));
+    const when = WITH_STORE.includes(command.toString()) ? BEFOREHAND : WHEN_CALLED;
+    [...when, ONCE_BUSY].forEach((flag) => v8.setFlagsFromString(flag));
   }
   return new WebAssembly.Module(moduleBytes());
 }
@@ -88,7 +94,8 @@ function run(module, host) {
 function statusHere() {
   try {
     admitMachine();
-    return run(moduleHere(), new Host(wordsGiven(), say));
+    const words = wordsGiven();
+    return run(moduleHere(words), new Host(words, say));
   } catch (error) {
     say(`vickrey: ${error instanceof NotHere ? error.message : `stopped: ${error.stack}`}`);
     return error instanceof NotHere ? NOT_HERE : STOPPED;

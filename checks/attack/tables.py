@@ -6,7 +6,7 @@ import shutil
 import signal
 import subprocess
 import time
-from dataclasses import dataclass
+from dataclasses import dataclass, field
 
 from attack import reference
 from attack.cases import Batch, Limited, LimitedOutput, Output, Refused, Signalled, SmallDisk, Told
@@ -44,6 +44,7 @@ class Attack:
     draw: random.Random
     quick: bool
     no_closed: bool = False  # closed standard streams aren't tried
+    names: list = field(default_factory=list)  # what is attacked alone; where there are none, all
 
     def some(self, cases, most):
         """All cases, or so many of them, in their order."""
@@ -52,10 +53,12 @@ class Attack:
             return cases
         return [cases[at] for at in sorted(self.draw.sample(range(len(cases)), most))]
 
+    def is_named(self, scenario):
+        return not self.names or scenario.name in self.names
+
     def scenarios(self):
-        if self.quick:
-            return self.on.small()
-        return self.on.small() + self.on.large + self.on.samples
+        beside = [] if self.quick else self.on.large + self.on.samples
+        return list(filter(self.is_named, self.on.small() + beside))
 
     def most(self, scenario, quick, full):
         """How many cases of a scenario: of a sample, which takes a second or more for each, few."""
@@ -163,7 +166,7 @@ def killed(attack):
                 yield Refused(scenario, label, (KILLED,), kinds, number, number, "kill")
     large = [*attack.on.large, *attack.on.samples[1:]]
     beside = [scenario for scenario in attack.on.writing if "store of number 1" in scenario.name]
-    for scenario in [*large, *beside]:
+    for scenario in filter(attack.is_named, [*large, *beside]):
         lasted = how_long(attack.made, scenario)
         for _ in range(20 if attack.quick else 300):
             seconds = attack.draw.uniform(0, 1.2 * lasted)

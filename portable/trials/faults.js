@@ -104,4 +104,5 @@ class Faulty extends Host {
 }
 
 const say = (line) => fs.writeSync(2, `${line}\n`);
-process.exitCode = run(moduleHere(), new Faulty(wordsGiven(), say));
+const words = wordsGiven();
+process.exitCode = run(moduleHere(words), new Faulty(words, say));
