@@ -94,6 +94,7 @@ const Sell = (() => {
     const { house, made, digest } = open;
     if (!isAbove(house)) {
       await Announced.take(house.announcement);
+      Announced.goOn();
     }
     if (open !== auction) {
       return;
