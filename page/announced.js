@@ -6,8 +6,9 @@ const Announced = (() => {
 
   const MOST_BYTES = 256 * 1024;
 
-  // What was announced, or null; and who wants to know when that changes
-  const state = { now: null, bytes: null, digest: "" };
+  // What was announced, or null; the number of the last thing that was handed in here, of which
+  // alone something comes; and who wants to know when that changes
+  const state = { now: null, bytes: null, digest: "", turn: 0 };
   const listeners = [];
 
   const now = () => state.now;
@@ -76,6 +77,7 @@ const Announced = (() => {
 
   function showCard() {
     const { now } = state;
+    const isHere = find("announced-take").contains(document.activeElement);
     find("announced-take").hidden = now !== null;
     find("announced-card").hidden = now === null;
     find("announced-away").hidden = now === null;
@@ -83,8 +85,12 @@ const Announced = (() => {
     if (!now) {
       return;
     }
+    if (isHere) {
+      find("announced-card").focus();
+    }
     find("announced-id").textContent = now.auction;
     find("announced-summary").textContent = summary(now);
+    find("announced-digest").textContent = state.digest;
     find("announced-all").replaceChildren(
       line(Announcement.rule(now)),
       line(Announcement.bids(now)),
@@ -97,14 +103,17 @@ const Announced = (() => {
     );
   }
 
-  function tell(mood, ...parts) {
-    find("announced-told").className = `told ${mood}`;
-    find("announced-told").replaceChildren(...parts);
+  function tell(mood, textContent) {
+    Object.assign(find("announced-told"), { className: `told ${mood}`, textContent });
   }
 
-  const TAKEN = "Taken: no tool asks for what it says. Compare its digest with the published one: ";
+  // What was told of what was handed in goes with the next step; the card stays.
+  const goOn = () => tell("", "");
 
-  const digestShown = () => make("code", { className: "digest", textContent: state.digest });
+  const TAKEN = "Taken: no tool asks for what it says. Compare its digest with the published one.";
+  const STAYS = "The announcement above is still the one that was taken before.";
+  const LONG = `It is no announcement: it is longer than ${MOST_BYTES / 1024} kB.`;
+  const GONE = "It can't be read: it is gone, or it was changed.";
 
   // ---- Taking one
 
@@ -118,9 +127,17 @@ const Announced = (() => {
     listeners.forEach((listener) => listener(announcement));
   }
 
-  // Takes the bytes of an announcement, or says which line of it is wrong.
-  async function take(bytes) {
+  // Something new is handed in: whether it is still the last thing that was.
+  function begun() {
+    const turn = ++state.turn;
     tell("", "");
+    return () => turn === state.turn;
+  }
+
+  const refuse = (why) => tell("bad", state.now ? `${why} ${STAYS}` : why);
+
+  // Takes the bytes of an announcement, or says which line of it is wrong.
+  async function take(bytes, isLast = begun()) {
     let found = null;
     try {
       found = Announcement.read(bytes);
@@ -128,15 +145,18 @@ const Announced = (() => {
       if (!(error instanceof Announcement.Fault)) {
         throw error;
       }
-      tell("bad", error.message);
-      return false;
+      refuse(error.message);
+      return;
     }
-    become(found, bytes, await Work.digestOf(bytes));
-    tell("", TAKEN, digestShown());
-    return true;
+    const digest = await Work.digestOf(bytes);
+    if (isLast()) {
+      become(found, bytes, digest);
+      tell("", TAKEN);
+    }
   }
 
   function putAway() {
+    state.turn++;
     Fields.give(find("announced-announcement"), []);
     find("announced-text").value = "";
     become(null, null, "");
@@ -149,18 +169,35 @@ const Announced = (() => {
     if (!file) {
       return;
     }
-    tell("", "");
+    const isLast = begun();
     const found = await Kinds.look(file);
-    if (found.kind === "announcement" && file.size <= MOST_BYTES) {
-      await take(new Uint8Array(await file.arrayBuffer()));
+    const bytes = await file.slice(0, MOST_BYTES + 1).arrayBuffer().catch(() => null);
+    if (!isLast() || found.kind !== "announcement") {
+      return;
+    }
+    if (bytes === null || bytes.byteLength > MOST_BYTES) {
+      refuse(bytes === null ? GONE : LONG);
+    } else {
+      await take(new Uint8Array(bytes), isLast);
     }
   }
 
   // A text that was pasted. Its last line feed is often lost, and is put back.
   async function takeText() {
+    const isLast = begun();
     const text = find("announced-text").value;
-    if (text.trim() !== "") {
-      await take(new TextEncoder().encode(`${text.replace(/\r\n/g, "\n").trimEnd()}\n`));
+    if (text.trim() === "") {
+      return;
+    }
+    const bytes = new TextEncoder().encode(`${text.replace(/\r\n/g, "\n").trimEnd()}\n`);
+    const found = await Kinds.look(new Blob([bytes]));
+    if (!isLast()) {
+      return;
+    }
+    if (found.kind === "announcement") {
+      await take(bytes, isLast);
+    } else {
+      refuse(`This is another text: ${Kinds.what(found)}. Here the announcement belongs.`);
     }
   }
 
@@ -175,5 +212,5 @@ const Announced = (() => {
   const digest = () => state.digest;
   const nameOf = (seat) => (state.now && state.now.seats.get(String(seat))) || "";
 
-  return { begin, now, take, putAway, onChange, bytes, digest, nameOf, listed };
+  return { begin, now, take, putAway, goOn, onChange, bytes, digest, nameOf, listed };
 })();

@@ -10,8 +10,8 @@ const vm = require("vm");
 const { load, call } = require("./module.js");
 
 const SCRIPTS = [
-  "work", "sentences", "asked", "terms", "archive", "locked", "audit", "sell_house", "sell_guard",
-  "sell_intake", "rehearsal_auction", "rehearsal_checks", "rehearsal_cheats",
+  "kinds", "work", "sentences", "asked", "terms", "archive", "locked", "audit", "sell_house",
+  "sell_guard", "sell_intake", "rehearsal_auction", "rehearsal_checks", "rehearsal_cheats",
 ];
 
 // What stands in the place of the page: commands run at once, and a browser's memory is a map.
@@ -35,8 +35,7 @@ function surroundings(module) {
     return Buffer.from(await file.slice(0, most).arrayBuffer()).toString("latin1");
   };
   const Fields = { headOf };
-  const Kinds = { headOf };
-  return { Parts, Fields, Kinds, localStorage, crypto, Blob, TextEncoder, TextDecoder, console };
+  return { Parts, Fields, localStorage, crypto, Blob, TextEncoder, TextDecoder, console };
 }
 
 function scripts(module) {

@@ -90,6 +90,10 @@ class Browser:
         """Presses keys one after another: characters, or names such as Tab, Enter or Shift+Tab."""
         raise NotImplementedError
 
+    def may_copy(self):
+        """Lets the page see what was copied, with no question to a person."""
+        raise NotImplementedError
+
     def resize(self, width, height):
         """Gives the page so many CSS pixels."""
         raise NotImplementedError
@@ -108,6 +112,11 @@ class Browser:
 
     def click(self, selector):
         self.run("document.querySelector(arguments[0]).click()", selector)
+
+    def press_on(self, selector):
+        """Presses a button by its key, as a person does."""
+        self.run("document.querySelector(arguments[0]).focus()", selector)
+        self.press("Enter")
 
     def write(self, selector, text):
         """Puts a text into a field as one that is typed there does."""
@@ -220,6 +229,7 @@ OF_THE_BROWSER = (
     "Target.getTargets",
     "Target.attachToTarget",
     "Browser.setDownloadBehavior",
+    "Browser.grantPermissions",
     "Browser.close",
 )
 
@@ -376,6 +386,9 @@ class Chromium(Browser):
             )
             self.ask("Input.dispatchKeyEvent", **down)
             self.ask("Input.dispatchKeyEvent", type="keyUp", **parts)
+
+    def may_copy(self):
+        self.ask("Browser.grantPermissions", permissions=["clipboardReadWrite"])
 
     def downloaded(self, name, patience=PATIENCE):
         data = super().downloaded(name, patience)
@@ -582,6 +595,9 @@ class Firefox(Browser):
             "WebDriver:PerformActions",
             actions=[{"type": "key", "id": "keyboard", "actions": actions}],
         )
+
+    def may_copy(self):
+        self.set("dom.events.testing.asyncClipboard", True)
 
     def set(self, name, value):
         """Gives a preference another value."""

@@ -245,18 +245,20 @@ const Fields = (() => {
     const taken = new Map();
     const left = [];
     for (const file of files.sort((one, other) => order.compare(one.name, other.name))) {
-      const { kind, seat } = await Kinds.look(file);
+      const look = await Kinds.look(file);
+      const { kind, seat } = look;
       const field = kind === "announcement" ? above() : form && fieldFor(form, kind, taken);
       if (field && (kind !== "seal" || field.multiple || isOwn(seat))) {
         taken.set(field, [...(taken.get(field) || []), file]);
       } else {
-        left.push(plain(file.name));
+        left.push(`${plain(file.name)} is ${Kinds.what(look)}`);
       }
     }
     taken.forEach((held, field) => give(field, held));
-    const names = left.slice(0, 5).join(", ");
-    const why = form ? "by their first lines" : "since they belong on a tool of this page";
-    const rest = left.length ? ` Not taken, ${why}: ${names}.` : "";
+    const more = left.length > 3 ? `; and ${left.length - 3} more` : "";
+    const said = `${left.slice(0, 3).join("; ")}${more}`;
+    const why = form ? "Not taken" : "Not taken, since they belong on a tool of this page";
+    const rest = left.length ? ` ${why}: ${said}.` : "";
     tell(`Taken: ${files.length - left.length} of ${files.length} files.${rest}`, rest && "bad");
   }
 

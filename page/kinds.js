@@ -18,22 +18,34 @@ const Kinds = (() => {
     coin: "a coin",
     script: "a script for the auctioneer",
     parts: "a list of auditors' parts",
+    house: "a seller's house",
   };
 
   // Other files that people have at hand, by how they begin
   const OTHERS = [
     [/^SQLite format 3\0/, "store", "an auctioneer's store"],
+    [/^-----BEGIN ([A-Z]+ )?PRIVATE KEY/, "key", "a private key"],
+    [/^-----BEGIN PUBLIC KEY/, "public key", "a public key"],
+    [/^vickrey audit, made by /, "report", "a report of an audit"],
     [/^(-----BEGIN (SSH|PGP) SIGNATURE|untrusted comment: )/, "signature", "a signature"],
     [/^(age-encryption\.org\/|-----BEGIN (AGE|PGP) )/, "locked", "an encrypted file"],
     [/^0[^]{1,4}\x06\x0b\x2a\x86H\x86\xf7\r\x01\x09\x10\x01\x17/, "locked", "an encrypted file"],
-    [/^(PK\x03\x04|\x1f\x8b|7z\xbc\xaf)/, "packed", "a packed file"],
+    [/^announcement\0[^]{244}ustar\0/, "packed", "an archive of an auction"],
+    [/^(PK\x03\x04|\x1f\x8b|7z\xbc\xaf|[^]{257}ustar)/, "packed", "a packed file"],
+    [/^%PDF-/, "document", "a document (PDF)"],
+    [/^(\x89PNG|\xff\xd8\xff|GIF8)/, "picture", "a picture"],
     [/^\s*<(!doctype|html)/i, "page", "a web page"],
   ];
+
+  // How a seller's house begins: the head of its first file in an archive, and that file
+  const HOUSE = /^house\0[^]{251}ustar\0[^]{249}(?=vickrey-house 1\n)/;
 
   const ADVICE = {
     secret: "Whoever has it knows the bid: show it to nobody but the auctioneer.",
     share: "Show it to nobody before all parts are public.",
     store: "It has every bid: give it to nobody.",
+    house: "It has every bid: give it to nobody.",
+    key: "It opens what is encrypted to it: give it to nobody.",
     locked: "Open it first with its key.",
     packed: "Unpack it first.",
     signature: "What was signed is a file of its own.",
@@ -54,9 +66,11 @@ const Kinds = (() => {
 
   const PART = /^part [1-9][0-9]? (commit )?[0-9a-f]{64}\r?\n/;
 
-  // The first bytes of a file as a text of one letter for each byte, whatever they are.
+  // The first bytes of a file as a text of one letter for each byte, whatever they are: its number
+  // is the byte. A TextDecoder's latin1 has other letters for some.
   async function headOf(file, most) {
-    return new TextDecoder("latin1").decode(await file.slice(0, most).arrayBuffer());
+    const bytes = new Uint8Array(await file.slice(0, most).arrayBuffer());
+    return Array.from(bytes, (byte) => String.fromCharCode(byte)).join("");
   }
 
   const isText = (head) => !/[\0-\x08\x0e-\x1f]/.test(head);
@@ -95,8 +109,9 @@ const Kinds = (() => {
     if (bytes === null) {
       return { kind: null, name: "a file that can't be read" };
     }
-    const head = bytes.replace(/^\xef\xbb\xbf/, "");
-    const isChanged = head !== bytes || /\r\n/.test(head);
+    const text = bytes.replace(/^\xef\xbb\xbf/, "");
+    const isChanged = text !== bytes || /\r\n/.test(text);
+    const head = text.replace(HOUSE, "");
     if (PART.test(head)) {
       return { kind: "parts", name: NAMES.parts, isChanged };
     }

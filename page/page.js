@@ -13,6 +13,7 @@ const Page = (() => {
       find(tab.getAttribute("aria-controls")).hidden = !chosen;
     });
     Way.chosen(name);
+    Announced.goOn();
     notice("");
   }
 

@@ -94,6 +94,7 @@ const Sell = (() => {
     const { house, made, digest } = open;
     if (!isAbove(house)) {
       await Announced.take(house.announcement);
+      Announced.goOn();
     }
     if (open !== auction) {
       return;
@@ -184,10 +185,11 @@ const Sell = (() => {
     "This isn't the house that was just made. Save that one, and open it; or close this auction, " +
     "and open another house.";
 
-  // What a file is that is no house: of a house no first line says anything.
+  // What a file is that is no house; nothing of one that may be a damaged one.
   async function otherFile(file) {
     const look = await Kinds.look(file);
-    return look.kind === "other" ? "" : `You chose another file: ${Kinds.what(look)}.`;
+    const mayBe = ["house", "other"].includes(look.kind);
+    return mayBe ? "" : `You chose another file: ${Kinds.what(look)}.`;
   }
 
   async function opened(file) {

@@ -73,7 +73,8 @@ const Intake = (() => {
       const row = place && rows.find(({ seat }) => seat === place.seat);
       const twice = row && filled.has(`${place.kind} ${row.seat}`);
       if (!row) {
-        left.push([file, place ? `no seat ${place.seat} was announced` : "no seal and no secret"]);
+        const what = `${Kinds.what(await Kinds.look(file))}; here seals and secrets belong`;
+        left.push([file, place ? `no seat ${place.seat} was announced` : what]);
       } else if (twice) {
         left.push([file, `a second ${place.kind} of seat ${row.seat}: choose the right one`]);
         row[place.kind] = null;

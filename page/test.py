@@ -12,8 +12,9 @@ wants Debian's packages chromium and firefox-esr, and Python's standard library.
   --only      chromium or firefox alone
   --trial     only the trials whose names have this in them, or one of several with commas
 
-A trial that saves files has a browser of its own, with a new profile. It prints a line for each trial, and ends
-with status 0 only if none failed.
+A trial that saves files has a browser of its own, with a new profile. It prints a line for each
+trial, `not here` for one that a browser gives no way to make, and ends with status 0 only if none
+failed.
 """
 import argparse
 import os
@@ -27,7 +28,7 @@ from assemble import assemble_again
 from browser import BROWSERS, BrowserError, Chromium, Firefox
 from trials.announced import ANNOUNCED
 from trials.audit import AUDIT
-from trials.desk import Desk
+from trials.desk import Desk, NotHere
 from trials.hostile import HOSTILE, Listener
 from trials.kinds import KINDS
 from trials.made import Made
@@ -49,7 +50,7 @@ class Table:
 
     def __init__(self, wanted):
         self.wanted = wanted
-        self.passed = self.failed = 0
+        self.passed = self.failed = self.not_here = 0
 
     def row(self, browser, trial, *words):
         if not any(word in trial.__name__ for word in self.wanted):
@@ -57,6 +58,9 @@ class Table:
         began = time.monotonic()
         try:
             trial(*words)
+        except NotHere as why:
+            self.not_here += 1
+            print(f"not here {browser:<8} {trial.__name__}: {why}", flush=True)
         except (
             Exception
         ) as fault:  # a fault of any kind is a trial that failed, and the next one follows
@@ -185,7 +189,8 @@ def main():
                 try_browser(kind, table, page, made, pictures)
     finally:
         shutil.rmtree(folder, ignore_errors=True)
-    print(f"{table.passed} passed, {table.failed} failed")
+    not_here = f", {table.not_here} can't be made in their browser" if table.not_here else ""
+    print(f"{table.passed} passed, {table.failed} failed{not_here}")
     return 1 if table.failed or not table.passed else 0
 
 

@@ -62,7 +62,7 @@ def is_taken_by_file(desk):
         "300 Zoë Müller",
     ):
         assert said in text, (said, text)
-    assert desk.made.digest("announcement") in desk.browser.text("#announced-told")
+    assert desk.made.digest("announcement") in desk.browser.text("#announced-card")
     desk.browser.click("#announced-away")
     fields_are(desk, False)
 
@@ -82,11 +82,43 @@ def is_taken_by_drop(desk):
 def is_taken_as_a_text(desk):
     """Pasted, also where the last line feed is lost, or lines end as on Windows."""
     for text in (announcement(), announcement().strip(), announcement().replace("\n", "\r\n")):
-        desk.open().fill("announced", text=text)
+        desk.open().run("document.querySelector('#announced-take details').open = true")
+        desk.fill("announced", text=text)
         fields_are(taken(desk), True)
-        assert desk.made.digest("announcement") in desk.run(
-            "return document.getElementById('announced-told').textContent"
-        )
+        assert desk.made.digest("announcement") in desk.browser.text("#announced-card")
+    assert desk.run("return document.activeElement.id") == "announced-card", "the focus is lost"
+
+
+def told_of_it(desk, words):
+    desk.browser.wait(
+        "return document.getElementById('announced-told').textContent.includes(arguments[0])", words
+    )
+
+
+def its_digest_stays(desk):
+    """That it was taken is said until the next step; its digest stands as long as it is taken."""
+    made = desk.made
+    is_there = "return document.getElementById('announced-card').innerText.includes(arguments[0])"
+    take(desk.open("bid"))
+    told_of_it(desk, "Taken: no tool asks for what it says.")
+    for step in ("#announcement-on", "#tab-check", "#tab-sell", "#way-announcement"):
+        desk.run("document.querySelector(arguments[0]).click()", step)
+        assert desk.browser.text("#announced-told") == "", step
+        assert desk.run(is_there, made.digest("announcement")), step
+    stays = "The announcement above is still the one that was taken before."
+    made.put("announcement-bad", announcement(lanes="65"))
+    desk.fill("announced", announcement=["announcement-bad"])
+    told_of_it(desk, f"Line 5 of the announcement has to be: lanes, and 1 to 64. {stays}")
+    assert desk.run(is_there, made.digest("announcement")), "the one that was refused stands there"
+    made.put("announcement-long", announcement() + "x" * 300_000)
+    desk.fill("announced", announcement=["announcement-long"])
+    told_of_it(desk, f"It is no announcement: it is longer than 256 kB. {stays}")
+    made.put("announcement-other", announcement(lanes="8"))
+    desk.fill("announced", announcement=["announcement-other"])
+    desk.browser.wait(is_there, made.digest("announcement-other"))
+    assert not desk.run(is_there, made.digest("announcement"))
+    desk.browser.click("#announced-away")
+    assert desk.run("return document.getElementById('announced-card').hidden")
 
 
 def said_of(desk, files):
@@ -208,6 +240,7 @@ ANNOUNCED = [
     is_taken_by_file,
     is_taken_by_drop,
     is_taken_as_a_text,
+    its_digest_stays,
     faults_are_told,
     edges_are_told,
     bids_are_in_the_unit,

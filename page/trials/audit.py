@@ -161,8 +161,17 @@ def fits_two_screens(desk):
     desk.browser.resize(390, 844)
     try:
         compared(desk, secret="secret-9")
-        high = desk.run("return document.documentElement.scrollHeight")
-        assert high <= 2 * 844, high
+        high = "return document.documentElement.scrollHeight"
+        assert desk.run(high) <= 2 * 844, desk.run(high)
+        # At the end of a bidder's way the five steps stand above it.
+        for step in ("#tab-bid", "#announcement-on", "#way-check"):
+            desk.browser.click(step)
+        shown = desk.run(
+            "return document.getElementById('way').getClientRects().length > 0 &&"
+            "document.querySelector('#check-work .say').textContent"
+        )
+        assert shown and shown.startswith("Seat 300 wins"), shown
+        assert desk.run(high) <= 2 * 844, desk.run(high)
     finally:
         desk.browser.resize(1100, 900)
 

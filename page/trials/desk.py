@@ -22,6 +22,10 @@ SHOWN = script("shown")
 TRIES = 20  # to stop a sample before it is over
 
 
+class NotHere(Exception):
+    """Why a trial can't be made in this browser. It has neither passed nor failed."""
+
+
 class Shown:
     """What a tool shows: `said` is the last answer of the program there, or None."""
 

@@ -5,7 +5,7 @@ import re
 import threading
 import time
 
-from .desk import script
+from .desk import NotHere, script
 from .made import ID, LANES
 from .use import ACCEPTED, named
 
@@ -101,7 +101,7 @@ def in_the_worker(browser, port):
 def workers_ask_for_nothing(desk):
     """The same from inside of the page's own Worker, where DevTools can look into it."""
     if desk.browser.name != "Chromium":
-        return
+        raise NotHere("Marionette can't look into a Worker")
     listener, other = Listener(), Listener()
     automatic = dict(waitForDebuggerOnStart=True, flatten=True)
     try:
@@ -305,7 +305,7 @@ def drops_find_their_fields(desk):
 def real_drops_are_taken(desk):
     """Files and a folder of the disk, dropped as a mouse does."""
     if desk.browser.name != "Chromium":
-        return
+        raise NotHere("Marionette can't drop a file")
     desk.open()
     notice = "const found = document.getElementById('notice'); return found.textContent"
     paths = [desk.made.path(name) for name in ("board", "challenge-0110", "reply-0110")]

@@ -24,9 +24,19 @@ CALLED = {
     "parts": "a list of auditors' parts",
     "store": "an auctioneer's store",
     "locked": "an encrypted file",
+    "locked-cms": "an encrypted file",
     "signature": "a signature",
+    "private-key": "a private key",
+    "public-key": "a public key",
+    "house": f"a seller's house{OWN}",
+    "archive": "an archive of an auction",
     "packed": "a packed file",
+    "packed-tar": "a packed file",
+    "packed-gz": "a packed file",
+    "report": "a report of an audit",
     "web-page": "a web page",
+    "picture": "a picture",
+    "document": "a document (PDF)",
     "empty": "an empty file",
     "text": "a text that is none of this program's",
     "only-end": "a text that is none of this program's",
@@ -35,6 +45,7 @@ CALLED = {
 
 # Of each place for files: its name for people, and the files that belong there
 PLACES = {
+    "announced-announcement": ("the announcement", {"announcement"}),
     "check-board": (
         "the board or claim file",
         {"board", "board-reserve", "uniform-board", "matching-board"},
@@ -109,7 +120,7 @@ def given(desk, cases, presses):
 def all_places_are_tried(desk):
     """The table has each place of the page but the seller's, and no other one."""
     found = desk.open().run(
-        "return [...document.querySelectorAll('.tool input[type=file]')].map(({ id }) => id)"
+        "return [...document.querySelectorAll('input[type=file]')].map(({ id }) => id)"
     )
     known = {*PLACES, *ALL, *SELLING}
     assert sorted(found) == sorted(known), set(found) ^ known
@@ -117,7 +128,9 @@ def all_places_are_tried(desk):
 
 def files_say_what_they_are(desk):
     """Below each field, as soon as a file is chosen there."""
-    cases = [[field, name] for field in PLACES for name in CALLED]
+    cases = [[field, name] for field in PLACES for name in CALLED if name != "announcement"]
+    # Once it is taken, files are told to be of its auction.
+    cases += [[field, "announcement"] for field in reversed(PLACES)]
     for (field, name), (said, mood) in zip(cases, given(desk.open(), cases, False)):
         place, own = PLACES[field]
         called = CALLED[name]
@@ -225,8 +238,30 @@ def all_files_are_chosen_at_once(desk):
         desk.browser.choose(f"#{tool}-all", *map(desk.made.path, [*names, "text"]))
         told = f"return document.getElementById('{tool}-all-told').textContent"
         desk.browser.wait(f"{told}.startsWith('Taken: {len(names)} of {len(names) + 1} files.')")
-        assert desk.run(told).endswith("Not taken, by their first lines: text."), desk.run(told)
+        assert desk.run(told).endswith(f" Not taken: text is {CALLED['text']}."), desk.run(told)
         assert desk.run(held, tool) == places, desk.run(held, tool)
+
+
+def pasted_texts_are_told(desk):
+    """What is pasted in the place of the announcement, and is none: what it is."""
+    desk.open()
+    texts = {}
+    for name, called in CALLED.items():
+        try:
+            texts[name] = desk.made.bytes(name).decode("ascii")
+        except UnicodeDecodeError:
+            continue
+        if name in ("announcement", "empty") or "\0" in texts[name]:
+            continue
+        desk.browser.write("#announced-text", texts[name])
+        told = "const told = document.getElementById('announced-told').textContent;"
+        desk.browser.wait(
+            f"{told} return told.startsWith(arguments[0]) && told.endsWith(arguments[1])",
+            f"This is another text: {called}",
+            ". Here the announcement belongs.",
+        )
+        assert desk.run("return document.getElementById('announced-card').hidden"), name
+    assert {"board", "secret-7", "seal-7", "text", "coin", "web-page"} <= texts.keys(), texts.keys()
 
 
 def mailed_files_are_told(desk):
@@ -241,5 +276,6 @@ KINDS = [
     other_files_are_no_verdict,
     files_of_two_auctions_are_no_verdict,
     all_files_are_chosen_at_once,
+    pasted_texts_are_told,
     mailed_files_are_told,
 ]

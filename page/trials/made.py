@@ -1,9 +1,11 @@
 """The files that the page is tried on. The program makes them, and says what they come to."""
 import hashlib
+import io
 import os
 import random
 import shutil
 import subprocess
+import tarfile
 from collections import namedtuple
 
 # What a command came to: its status, and the lines that it printed.
@@ -173,6 +175,12 @@ class Made:
         self.put("signature", "-----BEGIN SSH SIGNATURE-----\nU1NIU0lH\n")
         self.put("packed", b"PK\x03\x04\x14\0\0\0")
         self.put("web-page", "<!doctype html><title>board</title>")
+        self.put("packed-gz", b"\x1f\x8b\x08\0\0\0\0\0")
+        self.put("report", "vickrey audit, made by the page in a browser\n")
+        self.put("picture", b"\x89PNG\r\n\x1a\n\0\0\0\rIHDR")
+        self.put("document", b"%PDF-1.7\n%\xe2\xe3\xcf\xd3\n")
+        self.archives()
+        self.locked()
         self.put("secret-7-line", self.bytes("secret-7").replace(b"\nbid ", b"\nbids "))
         self.put("seal-7-mailed", self.bytes("seal-7").replace(b"\n", b"\r\n"))
         self.put("seal-7-cut", b"".join(self.bytes("seal-7").splitlines(True)[:-2]))
@@ -180,6 +188,32 @@ class Made:
         os.mkdir(store)
         self.must("announce", ID, WIDTH, LANES, folder=store)
         os.rename(os.path.join(store, "house.sqlite"), self.path("store"))
+
+    def archives(self):
+        """Archives as a seller has them, and one of other files."""
+        house = f"vickrey-house 1\nauction {ID}\nnumber 1\n"
+        for name, first, text in (
+            ("house", "house", house),
+            ("archive", "announcement", announcement()),
+            ("packed-tar", "board", self.bytes("board").decode()),
+        ):
+            head = tarfile.TarInfo(first)
+            head.size = len(text.encode())
+            with tarfile.open(self.path(name), "w", format=tarfile.USTAR_FORMAT) as archive:
+                archive.addfile(head, io.BytesIO(text.encode()))
+
+    def locked(self):
+        """A key, and a file that openssl encrypts to it."""
+        key, public, paper = (self.path(name) for name in ("private-key", "public-key", "paper"))
+        curve = ["-algorithm", "EC", "-pkeyopt", "ec_paramgen_curve:P-256"]
+        for words in (
+            ["genpkey", *curve, "-out", key],
+            ["pkey", "-in", key, "-pubout", "-out", public],
+            ["req", "-x509", "-key", key, "-subj", "/CN=auctioneer", "-out", paper],
+            ["cms", "-encrypt", "-binary", "-aes-256-gcm", "-in", self.path("secret-7")]
+            + ["-outform", "DER", "-out", self.path("locked-cms"), paper],
+        ):
+            subprocess.run(["openssl", *words], capture_output=True, check=True)
 
 
 def announcement(**changed):

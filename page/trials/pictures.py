@@ -34,6 +34,14 @@ STEPS = {
 STEP_SIZE = (720, 2400)
 
 
+# What a check found is folded away on a phone, as the page does where it is made there
+FOLDS = (
+    "const list = document.querySelector('#check-work .checklist li.ok');"
+    "const folded = list && list.closest('details');"
+    "if (folded) folded.open = matchMedia('(min-width: 40rem)').matches"
+)
+
+
 def steps_of_a_bid(desk):
     """The five steps, with an announcement that has a key."""
     made = desk.made
@@ -162,6 +170,7 @@ def take_pictures(desk, folder):
             for look, width, height, dark in LOOKS:
                 browser.resize(width, height)
                 browser.paint(dark)
+                desk.run(FOLDS)
                 desk.run("document.activeElement.blur(); scrollTo(0, 0)")
                 name = f"{browser.name.lower()}-{look}-{step}.png"
                 browser.picture(os.path.join(folder, name), whole=True)

@@ -4,7 +4,7 @@ import re
 
 from browser import Chromium
 
-from .desk import Desk
+from .desk import Desk, NotHere
 from .use import ACCEPTED
 
 
@@ -31,9 +31,9 @@ def no_webassembly(kind, address, made):
 
 
 def no_vectors(kind, address, made):
-    """Without SIMD. Firefox has no setting for that."""
+    """Without SIMD."""
     if kind is not Chromium:
-        return
+        raise NotHere("it has no setting for that")
     flags = (
         "--no-enable-sse3 --no-enable-ssse3 --no-enable-sse4-1 --no-enable-sse4-2 --no-enable-avx"
     )
@@ -42,9 +42,9 @@ def no_vectors(kind, address, made):
 
 
 def little_memory(kind, address, made):
-    """A browser that gives the module few pages of memory. Firefox has no setting for that."""
+    """A browser that gives the module few pages of memory."""
     if kind is not Chromium:
-        return
+        raise NotHere("it has no setting for that")
     with kind(flags=["--js-flags=--wasm-max-mem-pages=200"]) as browser:
         desk = Desk(browser, address, made)
         browser.open(address)
@@ -70,9 +70,7 @@ def no_script(kind, address, made):
 
 
 def no_workers(kind, address, made):
-    """A browser that starts no Worker. Firefox's page can't be changed from here."""
-    if kind is not Chromium:
-        return
+    """A browser that starts no Worker."""
     with kind() as browser:
         desk = Desk(browser, address, made).open()
         desk.run("window.Worker = function () { throw new Error('none') }")

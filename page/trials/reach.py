@@ -2,6 +2,9 @@
 from .use import ACCEPTED, TWO, announced
 from .desk import script
 from .made import ID, LANES, WIDTH
+from .rehearse import STEPS as REHEARSED
+from .rehearse import Reader, make_cheat
+from .seller import Seller
 
 TABS = ("bid", "check", "audit", "sell")
 # The steps of the tab Bid that have something of their own
@@ -80,6 +83,47 @@ def fits_a_phone(desk):
         desk.browser.resize(1100, 900)
 
 
+def fits(desk, where):
+    """Nothing is wider than the page but what scrolls by itself, at 320 pixels; then it is a desk's
+    again."""
+    desk.browser.resize(320, 700)
+    try:
+        inner, whole, most, out = desk.run(script("wide"))
+        assert inner == 320 and whole <= most and not out, (where, inner, whole, most, out)
+    finally:
+        desk.browser.resize(1100, 900)
+
+
+def a_sale_fits_a_phone(desk):
+    """Each step of a sale, and what it hands out."""
+    seller = Seller(desk, "narrow", auditors=3).open()
+    seller.fill_terms()
+    desk.browser.click("#sell-terms-run")
+    seller.says("Save the house now")
+    fits(desk, "the first house")
+    seller.keep()
+    seller.id, seller.width = seller.save("announcement").decode().split("\n")[1][8:], 14
+    for step in (seller.take, seller.prove, seller.answer):
+        fits(desk, f"before {step.__name__}")
+        step()
+    desk.browser.click("#sell-pack-run")
+    seller.says("The archive has all that is public", "sell-pack")
+    fits(desk, "the archive")
+
+
+def a_rehearsal_fits_a_phone(desk):
+    """A whole auction to try, and a cheat that was found."""
+    reader = Reader(desk.open(), "narrow-rehearsal")
+    desk.browser.click("#rehearse")
+    for number in range(1, len(REHEARSED) + 1):
+        reader.wait_step(number)
+        fits(desk, number)
+        desk.browser.click("#rehearsal-run")
+    desk.browser.click("#rehearsal-cheat")
+    make_cheat(desk)
+    fits(desk, "a cheat")
+
+
 def tabs_go_by_keys(desk):
     """Arrows, Home and End go from tab to tab; Tab goes into the chosen one."""
     desk.open()
@@ -153,6 +197,8 @@ REACH = [
     all_is_named,
     all_can_be_read,
     fits_a_phone,
+    a_sale_fits_a_phone,
+    a_rehearsal_fits_a_phone,
     tabs_go_by_keys,
     all_goes_by_keys,
     answers_are_told,

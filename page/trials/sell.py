@@ -253,13 +253,15 @@ def other_files_are_told(desk):
     for name, called in CALLED.items():
         desk.browser.choose("#sell-house", desk.made.path(name))
         wanted = f"You chose another file: {called}"
-        seller.says("It is no house" if name == "noise" else wanted)
+        seller.says("It is no house" if name in ("noise", "house") else wanted)
     seller.announce()
-    for name in CALLED.keys() - {"seal-7", "other-seal-7", "secret-7"}:
+    for name, called in CALLED.items():
+        if name in ("seal-7", "other-seal-7", "secret-7"):
+            continue
         desk.browser.choose("#sell-take-files", desk.made.path(name))
         desk.browser.wait(
             "return document.getElementById('sell-take-work').textContent.includes(arguments[0])",
-            f"{name}: no seal and no secret.",
+            f"{name}: {called}; here seals and secrets belong.",
         )
     seller.take()
     seller.prove()

@@ -167,13 +167,24 @@ def damaged_houses_are_refused(desk):
     again(seller, seller.houses[-1])
 
 
-def two_tabs(desk, how="locks"):
+def without(desk, *names):
+    """Takes away what this browser has for several tabs, in the page that is open."""
+    desk.run(
+        "if (arguments[0].includes('locks')) delete Navigator.prototype.locks;"
+        "if (arguments[0].includes('messages')) delete window.BroadcastChannel;",
+        names,
+    )
+
+
+def two_tabs(desk, *names):
     """What is open in a tab isn't opened in a second one, until it is closed in the first."""
     tabs = Tabs(desk.browser)
     seller = Seller(desk).open()
+    without(desk, *names)
     seller.announce()
     second = tabs.new()
     seller.open()
+    without(desk, *names)
     seller.show_house(seller.houses[-1])
     assert seller.says("is open in another tab")[0] == "say bad"
     assert seller.forms() == ["terms"]
@@ -185,6 +196,20 @@ def two_tabs(desk, how="locks"):
     tabs.go(tabs.first)
     seller.show_house(seller.houses[-1])
     seller.says("is open in another tab")
+
+
+def two_tabs_by_messages(desk):
+    """The same in a browser without locks, where tabs ask each other."""
+    two_tabs(desk, "locks")
+
+
+def tabs_that_see_nothing(desk):
+    """Where there are neither locks nor messages, the page says that it can't see other tabs."""
+    seller = Seller(desk).open()
+    without(desk, "locks", "messages")
+    seller.announce()
+    notice = desk.browser.text("#notice")
+    assert notice.startswith("This browser has no way to see whether another tab works"), notice
 
 
 def nothing_is_stored(desk):
@@ -231,6 +256,8 @@ SELL_HOSTILE = [
     old_copies_are_refused,
     damaged_houses_are_refused,
     two_tabs,
+    two_tabs_by_messages,
+    tabs_that_see_nothing,
     nothing_is_stored,
     sixty_four_bidders,
 ]

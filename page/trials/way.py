@@ -81,6 +81,35 @@ def both_files_are_saved(desk):
     assert desk.run(STORED) == [0, 0, "", 0], "nothing is stored in the browser"
 
 
+def copied(desk, button):
+    """What the button has put where other programs take it from."""
+    desk.browser.press_on(button)
+    said = "return document.querySelector(arguments[0]).textContent"
+    desk.browser.wait(f"{said} === 'Copied'", button)
+    return desk.run("return navigator.clipboard.readText()")
+
+
+def texts_are_copied(desk):
+    """Names with fingerprints, the board's digest and the verdict go where others take them."""
+    made, browser = desk.made, desk.browser
+    browser.may_copy()
+    take(desk.open("bid"))
+    desk.seal(seat_of="7", bid="0.20", seed=made.seeds[7])
+    for name in ("secret-7", "seal-7"):
+        button = f"#keep-work [aria-label='Copy the name and fingerprint of {name}']"
+        found = copied(desk, button)
+        assert found == f"{name} {fingerprint(made.bytes(name))}", found
+    desk.keep(7)
+    browser.click("#keep-on")
+    desk.use("mine", board=["board"])
+    found = copied(desk, '#mine-work [aria-label="Copy the board\'s digest"]')
+    assert found == made.digest("board"), found
+    browser.click("#step-look [data-go=check]")
+    shown = desk.use("check", challenge=["challenge-0110"], reply=["reply-0110"])
+    found = copied(desk, "#check-work [aria-label='Copy the verdict']")
+    assert found == shown.title, found
+
+
 def secrets_are_encrypted(desk):
     """To the announced key: a third file, which openssl opens with the private half of it."""
     made = desk.made
@@ -122,4 +151,10 @@ def a_second_bid_waits(desk):
     assert shown.links == ["secret-9", "seal-9"], shown.links
 
 
-WAY = [bids_are_reviewed, both_files_are_saved, secrets_are_encrypted, a_second_bid_waits]
+WAY = [
+    bids_are_reviewed,
+    both_files_are_saved,
+    texts_are_copied,
+    secrets_are_encrypted,
+    a_second_bid_waits,
+]

@@ -4,10 +4,11 @@ They are watched from inside of the page, which DevTools alone can do: so in Chr
 """
 from contextlib import contextmanager
 
-from .desk import Desk, text_of
+from .desk import Desk, NotHere, text_of
 from .poor import module_of, with_module
 from .use import ACCEPTED, named
 
+HIDDEN = "Marionette can't look into a Worker"
 ALL = "return workers.map(({ asked, ended }) => [asked, ended])"
 SPARE = "return workers.indexOf(Parts.setting.queue.spare)"
 
@@ -24,9 +25,10 @@ def watched(browser):
 
 def watching(trial):
     def trial_of(desk):
-        if desk.browser.name == "Chromium":
-            with watched(desk.browser):
-                trial(desk)
+        if desk.browser.name != "Chromium":
+            raise NotHere(HIDDEN)
+        with watched(desk.browser):
+            trial(desk)
 
     trial_of.__name__ = trial.__name__
     return trial_of
@@ -123,7 +125,7 @@ def files_are_read_in_pieces(desk):
     """The same is said where a browser can't read a file into memory that is there."""
     browser, made = desk.browser, desk.made
     if browser.name != "Chromium":
-        return
+        raise NotHere(HIDDEN)
     made.put("longer", made.bytes("board") + b"x" * 20_000_000)
     desk.open("audit")
     browser.wait("return Boolean(Parts.setting.queue.spare)")
@@ -145,7 +147,7 @@ def practice_gives_way(kind, address, made):
     """What is pressed stops the practice at once. One that never ends is given up."""
     with kind() as browser:
         if browser.name != "Chromium":
-            return
+            raise NotHere(HIDDEN)
         never_ends = with_module(address, made, module_of(b"\3\x40\x0c\0\x0b\0"))
         with watched(browser):
             desk = Desk(browser, never_ends, made).open("bid")
