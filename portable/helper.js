@@ -61,9 +61,10 @@ function surroundings(file) {
   return { stdio: [file, "ignore", "ignore"], env: PATH === undefined ? {} : { PATH } };
 }
 
-// Whether a helper that ended so made the call.
+// Whether a helper that ended so made the call. With 126 and 127 a shell says that it couldn't start
+// what it was asked to, and no lock and no advice has such an error.
 const hasTried = ({ error, signal, status }) =>
-  !error && signal === null && (status < 128 || status === LOCKED_ALONE);
+  !error && signal === null && (status < 126 || status === LOCKED_ALONE);
 
 // Makes the call on the open file, and answers 0, the number of an error, or LOCKED_ALONE.
 function callOn(file, words, say) {

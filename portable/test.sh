@@ -81,10 +81,13 @@ turns() {
 two() { note 'two processes on one store' python3 "$here/trials/two.py" "$program"; }
 
 helpers() {
-  local helper
+  local helper place
   for helper in perl python3; do
     mkdir "$work/$helper"
-    ln -s "$(command -v $helper)" "$work/$helper/$helper"
+    place=$(command -v $helper)
+    # Where a script stands in its place, which wants more than this: Python itself
+    [ $helper = perl ] || place=$(python3 -c 'import os, sys; print(os.path.realpath(sys.executable))')
+    ln -s "$place" "$work/$helper/$helper"
     note "helpers, $helper" env "PATH=$work/$helper" "$node" "$here/trials/helpers.js" "$work/locked"
   done
 }
@@ -131,10 +134,17 @@ refusal() {
 }
 
 refused() {
-  local id=000102030405060708090a0b0c0d0e0f
+  local id=000102030405060708090a0b0c0d0e0f helper
   mkdir "$work/bin" "$work/copy"
   ln -s "$node" "$work/bin/node"
   note 'no helper for a lock' refusal 6 'neither perl nor python3' \
+    env "PATH=$work/bin" node "$here/vickrey.js" announce $id 4 2
+  # One that is there and starts nothing, as a script does whose interpreter is missing
+  for helper in perl python3; do
+    printf '#!/bin/sh\nexit 127\n' >"$work/bin/$helper"
+    chmod 755 "$work/bin/$helper"
+  done
+  note 'no helper that starts' refusal 6 'neither perl nor python3' \
     env "PATH=$work/bin" node "$here/vickrey.js" announce $id 4 2
   cp "$here"/*.js "$here"/vickrey.wasm.* "$work/copy"
   truncate -s -1000 "$work/copy/vickrey.wasm.gz"

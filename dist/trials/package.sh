@@ -58,8 +58,11 @@ case_of 'a board is proved' 'proved winner 9 price 4' $nobody "
   vickrey seal $id 9 13 4 2 $two secret-9 seal-9 && vickrey submit $id seal-9 secret-9 && vickrey prove $id $one board"
 case_of 'the program verifies' accepted $nobody 'vickrey sample 1 >said && vickrey verify sample-board sample-challenge-1 sample-reply-1'
 case_of 'the second checker verifies' accepted $nobody 'vickrey sample 1 >said && vickrey-check verify sample-board sample-challenge-2 sample-reply-2'
-case_of 'the audit is there' 'vickrey-audit' $nobody 'ls -l /usr/bin'
-case_of 'the intake is there' 'vickrey-take' $nobody 'ls -l /usr/bin'
+case_of 'the audit finds it right' ' ok, 0 FAILED' $nobody "
+  vickrey announce $id 4 2 && vickrey seal $id 7 4 4 2 $one secret-7 seal-7 && vickrey submit $id seal-7 secret-7 &&
+  vickrey prove $id $two board && vickrey coin-board board challenge && vickrey answer $id challenge reply &&
+  vickrey-audit vickrey \$(sha256sum board | cut -c 1-64) $id 4 2 7 \$(sed -n 's/^bits //p' challenge)"
+case_of 'the intake runs' 'usage: check.py take' $nobody 'vickrey-take 2>&1 || [ $? = 2 ]'
 case_of 'the page is there' 'vickrey.html' $nobody 'ls -R /usr/share/vickrey'
 case_of 'the manual page is there' 'vickrey.1' $nobody 'ls /usr/share/man/man1'
 case_of 'it is removed' 'Removing vickrey' 0:0 'dpkg --purge vickrey'
