@@ -51,9 +51,9 @@ return mark && mark.startTime;
 def by_program(program, folder):
     """Seconds of one verdict."""
     begun = time.perf_counter()
-    said = subprocess.run([program, "verify", *FILES], cwd=folder, capture_output=True, check=True).stdout
+    done = subprocess.run([program, "verify", *FILES], cwd=folder, capture_output=True, check=True)
     taken = time.perf_counter() - begun
-    assert said == b"accepted\n", said
+    assert done.stdout == b"accepted\n", done
     return taken
 
 

@@ -1,5 +1,5 @@
 #!/usr/bin/env python3
-"""page/assemble.py MODULE OUT: puts the one page together, from page.html, page.css, the scripts and
+"""page/assemble.py MODULE OUT: puts the one page together, of page.html, page.css, the scripts and
 the module.
 page/assemble.py --again OUT: the same with the module of the page that is there, page/vickrey.html:
 for whoever changes a script alone.
@@ -17,10 +17,11 @@ import re
 import sys
 
 SCRIPTS = (
-    "module", "work", "sentences", "kinds", "amounts", "fields", "announcement", "announced", "parts", "asked", "terms",
-    "archive", "locked", "keep", "way", "outcome", "points", "look", "check", "bid", "audit",
-    "sell_house", "sell_guard", "sell_intake", "sell_view", "sell_terms", "sell_forms", "sell",
-    "rehearsal_auction", "rehearsal_checks", "rehearsal_cheats", "rehearsal_find", "rehearsal", "page",
+    "module", "work", "sentences", "kinds", "amounts", "fields", "announcement", "announced",
+    "parts", "asked", "terms", "archive", "locked", "keep", "way", "outcome", "points", "look",
+    "check", "bid", "audit", "sell_house", "sell_guard", "sell_intake", "sell_view", "sell_terms",
+    "sell_forms", "sell", "rehearsal_auction", "rehearsal_checks", "rehearsal_cheats",
+    "rehearsal_find", "rehearsal", "page",
 )
 HERE = os.path.dirname(os.path.abspath(__file__))
 # What would end the element that a text stands in, or be read as another text than the digest's

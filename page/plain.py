@@ -1,6 +1,6 @@
 #!/usr/bin/env python3
-"""page/plain.py IN OUT: takes out of a module's text (as wasm-opt -S prints it) the two instructions
-on vectors that wasm-opt cannot lower to addresses of 32 bits.
+"""page/plain.py IN OUT: takes out of a module's text (as wasm-opt -S prints it) the two
+instructions on vectors that wasm-opt cannot lower to addresses of 32 bits.
 
     (v128.load32_splat ADDRESS)          ->  (i32x4.splat (i32.load ADDRESS))
     (v128.store32_lane N ADDRESS VECTOR) ->  (i32.store ADDRESS (i32x4.extract_lane N VECTOR))

@@ -20,7 +20,7 @@ NAMES = "target-cpu|target-features|tune-cpu|probe-stack|stack-probe-size"
 X86 = re.compile(rf' ?"(?:{NAMES})"(?:="[^"]*")?')
 ODD = re.compile(r"(?m)^.*(?:x86|asm sideeffect|thread_local).*$")
 
-# The functions whose loops are marked. A loop begins at a label, to which a jump further below leads
+# The functions whose loops are marked. A loop begins at a label, to which a jump below leads back
 WIDE = ("vk_lines::digits::read_values", "vk_lines::digits::join_values")
 FUNCTION = re.compile(r'(?m)^define [^@]*@"([^"]+)"\(.*\{\n(?:.*\n)*?\}\n')
 LABEL = re.compile(r"(?m)^(loop\.[0-9]+):")

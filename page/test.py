@@ -122,8 +122,8 @@ class Desks:
         self.browser = None
 
     def open(self):
-        """A browser of the desk's size: a new one where the one that is there can't have it, as with a
-        bar of the browser's own above the page."""
+        """A browser of the desk's size: a new one where the one that is there can't have it, as
+        with a bar of the browser's own above the page."""
         if self.browser:
             try:
                 self.browser.resize(1100, 900)

@@ -35,7 +35,7 @@ def take(desk, name="announcement"):
 
 
 def fields_are(desk, are_filled):
-    """What the announcement says stands in the fields of all tools, which are hidden; or in none."""
+    """What the announcement says stands in the fields of all tools, which are hidden; or none."""
     for tool, fields in FILLED.items():
         for name, value in fields.items():
             found = desk.run(
@@ -51,7 +51,8 @@ def is_taken_by_file(desk):
     take(desk.open())
     fields_are(desk, True)
     text = desk.browser.text("#announced-card")
-    assert f"Auction {ID}: bids from 0.00 to 0.63 EUR, no reserve, 3 seats, 3 auditors." in text, text
+    said = f"Auction {ID}: bids from 0.00 to 0.63 EUR, no reserve, 3 seats, 3 auditors."
+    assert said in text, text
     desk.browser.click("#announced-more summary")
     text = desk.browser.text("#announced-all")
     for said in (

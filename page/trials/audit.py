@@ -52,7 +52,7 @@ HONEST = {
 
 
 def compared(desk, said="", digest="", secret="", parts="parts", title="", **changed):
-    """The page says of a case what check.py says of it, with this title where it has one of its own."""
+    """The page says of a case what check.py says of it, with this title where it has its own."""
     made = desk.made
     said = said or announcement()
     files = {name: source for name, source in {**HONEST, **changed}.items() if source}

@@ -12,7 +12,7 @@ def text_of(name):
 
 
 def script(name):
-    """The body of a function that calls the one of a script, with the arguments that it is given."""
+    """The body of a function that calls that of a script, with the arguments that it is given."""
     first, *others = name.split("_")
     called = first + "".join(word.capitalize() for word in others)
     return f"{text_of(name)}\nreturn {called}(...arguments)"

@@ -169,8 +169,8 @@ def files_of_two_auctions_are_no_verdict(desk):
         (
             "mine",
             dict(board="other-board"),
-            f"You chose files of two auctions: the board is of auction {OTHER_ID}, and the seal is of "
-            f"auction {ID}. {NOTHING}",
+            f"You chose files of two auctions: the board is of auction {OTHER_ID}, and the seal is "
+            f"of auction {ID}. {NOTHING}",
         ),
         (
             "mine",
@@ -193,7 +193,8 @@ def files_of_two_auctions_are_no_verdict(desk):
         (
             "mine",
             dict(secret="secret-7-other"),
-            "Your seal stands on the board, unchanged. You chose another secret: it doesn't open it.",
+            "Your seal stands on the board, unchanged. "
+            "You chose another secret: it doesn't open it.",
         ),
         ("confront", dict(secret="other-secret-7"), f"{two}secret{other}"),
         ("check", dict(seals="other-seal-7"), f"{two}seal{other}"),

@@ -1,4 +1,4 @@
-"""Pictures of each step, for whoever looks at the page: on a desk and on a phone, light and dark."""
+"""Pictures of each step, for whoever looks at the page: on a desk and a phone, light and dark."""
 import os
 
 from .announced import take
@@ -157,7 +157,7 @@ SCENES = [steps_of_a_bid, other_files, for_auditors, steps_of_a_sale, a_rehearsa
 
 
 def take_pictures(desk, folder):
-    """Each step in each look, as BROWSER-LOOK-STEP.png; and those of page/README.md, as STEP.png."""
+    """Each step in each look, as BROWSER-LOOK-STEP.png; those of page/README.md, as STEP.png."""
     browser = desk.browser
     for scene in SCENES:
         browser.resize(*WORKING)
