@@ -19,3 +19,5 @@ pub mod Lifting
 pub mod Opening
 pub mod Refused
 pub mod Runs
+pub mod Serving
+pub mod Publishing

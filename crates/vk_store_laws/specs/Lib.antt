@@ -5,3 +5,4 @@ pub mod Telling
 pub mod Former
 pub mod Refused
 pub mod Runs
+pub mod Serving

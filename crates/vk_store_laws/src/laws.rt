@@ -11,6 +11,10 @@ ghost use Rattle.sqlite.specs.declared.types.Value.TheVariants.{Int};
 ghost use Rattle.vk_io.specs.declared.errors.OutsideErr.{OutsideErr};
 ghost use Rattle.vk_commit.specs.Values.{AreBytes};
 ghost use Rattle.vk_reply.specs.declared.challenge.Challenge.{Challenge};
+ghost use Rattle.vk_reply.specs.Texts.{challenge_text};
+ghost use Rattle.vk_verifier.specs.Acceptance.{Accepts};
+ghost use Rattle.vk_job.specs.Published.{board_of, reply_of};
+ghost use Rattle.vk_house.specs.Once.{KeepsAnswers};
 ghost use Rattle.vk_keeper.specs.Auctions.{IsAuction, challenge_of};
 ghost use Rattle.vk_keeper.specs.First.{FirstLedger, lifted_ledger};
 ghost use Rattle.vk_keeper.specs.Ledgers.{Ledger};
@@ -25,6 +29,7 @@ ghost use Rattle.vk_store_laws.specs.Former.{IsFirstStore, TellsFirst};
 ghost use Rattle.vk_store_laws.specs.Holding.{IsStore, Stands};
 ghost use Rattle.vk_store_laws.specs.Refused.{IsOfConnection};
 ghost use Rattle.vk_store_laws.specs.Runs.{Act, AllSpare, HasFound, LeadOn, Runs, Tells};
+ghost use Rattle.vk_store_laws.specs.Serving.{Answers, Proves, Served, Serves, StepOn};
 ghost use Rattle.vk_store_laws.specs.Tables.{no_schema};
 ghost use Rattle.vk_store_laws.specs.Telling.{TablesTell};
 
@@ -182,4 +187,32 @@ pub fn what_is_answered_is_found_for_ever<S: Alter>()
         → challenge_of held.phase ≡ Some challenge
         → AllSpare acts ledger → Runs S.Store acts old new → HasFound S.Store id answer new last
         → answer ≡ Some held }
+{}
+
+/// A law: whatever a house is asked over a store, with crashes and openings between and within, all
+/// answers of one auction that were done are one, in challenge and reply; all its boards are one;
+/// and with this each reply is accepted. The ledger goes as the house's steps do. Of a command that
+/// was stopped nothing is kept, or what its step keeps.
+///
+/// What a command asks of its keeper is said by `IsMade`: it finds what stands under its id, and
+/// keeps what the step on that keeps anew.
+pub fn all_answers_from_a_store_are_one<S: Alter>()
+    ensures steps { (all : List Served) (old : Held S) (new : Held S) (ledger : Ledger)
+        → Serves S.Store all old new → Tells S.Store old ledger
+        → (after : Ledger) × StepOn all ledger after × KeepsAnswers ledger after
+        × Tells S.Store new after }
+    ensures answers { (all : List Served) (old : Held S) (new : Held S) (ledger : Ledger)
+        (id : List ℕ) (one : Challenge) (other : Challenge) (first : Auction) (second : Auction)
+        → Serves S.Store all old new → Tells S.Store old ledger
+        → Answers all id one first → Answers all id other second
+        → (one ≡ other) × (first ≡ second) }
+    ensures boards { (all : List Served) (old : Held S) (new : Held S) (ledger : Ledger)
+        (id : List ℕ) (first : Auction) (second : Auction)
+        → Serves S.Store all old new → Tells S.Store old ledger
+        → Proves all id first → Proves all id second → board_of first ≡ board_of second }
+    ensures accepted { (all : List Served) (old : Held S) (new : Held S) (ledger : Ledger)
+        (id : List ℕ) (challenge : Challenge) (first : Auction) (second : Auction)
+        → Serves S.Store all old new → Tells S.Store old ledger
+        → Proves all id first → Answers all id challenge second
+        → Accepts (board_of first) (challenge_text challenge) (reply_of second challenge) }
 {}

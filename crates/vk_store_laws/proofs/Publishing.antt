@@ -1,0 +1,228 @@
+-- What is published of an auction at a store is one.
+use Rattle.std.proofs.Common.{◌≡◌, ℕ, List, Option, Some, None, IfSome, IsSomeAnd, length, refl, sym, ap, subst, ◌∙◌}
+use Rattle.std.specs.Option.{option_or}
+use Rattle.std.specs.FinMap.{get}
+use Rattle.std.proofs.lemmas.Option.{same_Some}
+use Rattle.sqlite.specs.Store.{Ghosts}
+use Rattle.sqlite.specs.Held.{Held}
+use Rattle.vk_vickrey.specs.declared.sales.Sale.{Sale}
+use Rattle.vk_reply.specs.declared.challenge.Challenge.{Challenge}
+use Rattle.vk_reply.specs.Values.{IsChallenge}
+use Rattle.vk_reply.specs.Texts.{challenge_text}
+use Rattle.vk_verifier.specs.Acceptance.{Accepts}
+use Rattle.vk_keeper.specs.declared.auction.Auction.{Auction}
+use Rattle.vk_keeper.specs.declared.auction.Phase.{Phase}
+use Rattle.vk_keeper.specs.declared.auction.Phase.TheVariants.{Taking, Proved, Answered}
+use Rattle.vk_keeper.specs.Auctions.{IsAuction, challenge_of, seed_of}
+use Rattle.vk_keeper.specs.Ledgers.{Ledger, IsKeptUnder, IsLedger}
+use Rattle.vk_job.specs.Proofs.{drawn_in, lane_in}
+use Rattle.vk_job.specs.Jobs.{plan_of, sale_in, values_of}
+use Rattle.vk_job.specs.Published.{IsChallengeTo, board_of, head_of, reply_of}
+use Rattle.vk_house.specs.declared.errors.HouseErr.{HouseErr}
+use Rattle.vk_house.specs.Commands.{HouseCommand, Prove, Answer, id_of}
+use Rattle.vk_house.specs.Refusals.{refusal_of}
+use Rattle.vk_house.specs.Replies.{HouseReply, Work, reply_to}
+use Rattle.vk_house.specs.Steps.{house_step, in_phase, kept_by, step_at, step_by}
+use Rattle.vk_house.specs.Once.{KeepsAnswer, KeepsAnswers, KeepsSeed}
+use Rattle.vk_house.proofs.Stepping.{here_after}
+use Rattle.vk_auctioneer.proofs.Working.{GivesWork, answer_challenges, prove_seeds, proved_from}
+use Rattle.vk_honest.proofs.Accepted.{answers_are_accepted}
+use Rattle.vk_store_laws.specs.Runs.{Tells}
+use Rattle.vk_store_laws.specs.Serving.{Served, done, Serves, Proves, Answers}
+use Rattle.vk_store_laws.proofs.Runs.{IsSettled}
+use Rattle.vk_store_laws.proofs.Serving.{StepsRight, led, serve}
+
+-- ---- the board and the reply of an auction
+
+-- a board is that of its seed: no challenge is in it
+board_by : (auction : Auction) (phase : Phase) (seed : List ℕ) → seed_of phase ≡ Some seed
+    → board_of (in_phase auction phase) ≡ board_of (in_phase auction (Proved seed))
+unfolding head_of lane_in plan_of values_of drawn_in
+board_by auction Taking seed is = cc
+board_by auction (Proved own) seed is =
+    ap (λ s. board_of (in_phase auction (Proved s))) (same_Some own seed is)
+board_by auction (Answered own challenge) seed is =
+    ap (λ s. board_of (in_phase auction (Proved s))) (same_Some own seed is)
+
+board_kept : (auction : Auction) (seed : List ℕ) (later : Auction)
+    → seed_of auction.phase ≡ Some seed
+    → KeepsSeed auction seed later → board_of later ≡ board_of auction
+board_kept auction seed later is keeps =
+    ap board_of keeps.same ∙ board_by auction later.phase seed keeps.seed
+    ∙ sym (board_by auction auction.phase seed is)
+
+board_stays : (auction : Auction) (seed : List ℕ) (phase : Phase) (later : Option Auction)
+    → seed_of phase ≡ Some seed → seed_of auction.phase ≡ Some seed
+    → KeepsAnswer auction phase later
+    → IsSomeAnd later (λ last. board_of last ≡ board_of auction)
+board_stays auction seed Taking later is whole keeps = cc
+board_stays auction seed (Proved own) None is whole keeps = absurd keeps
+board_stays auction seed (Proved own) (Some last) is whole keeps =
+    board_kept auction own last (whole ∙ sym is) keeps
+board_stays auction seed (Answered own challenge) later is whole keeps =
+    subst (λ l. IsSomeAnd l (λ last. board_of last ≡ board_of auction)) (sym keeps) refl
+
+answer_stays : (auction : Auction) (challenge : Challenge) (phase : Phase) (later : Option Auction)
+    → challenge_of phase ≡ Some challenge → KeepsAnswer auction phase later → later ≡ Some auction
+answer_stays auction challenge Taking later is keeps = cc
+answer_stays auction challenge (Proved seed) later is keeps = cc
+answer_stays auction challenge (Answered seed own) later is keeps = keeps
+
+keeps_at : (old new : Ledger) (id : List ℕ) (auction : Auction) → KeepsAnswers old new
+    → get old id ≡ Some auction → KeepsAnswer auction auction.phase (get new id)
+keeps_at old new id auction keeps stands =
+    subst (λ answer. IfSome answer (λ (a : Auction). KeepsAnswer a a.phase (get new id))) stands
+    (keeps id)
+
+-- ---- what was done
+
+same_work : (one other : Auction) (sale given : Sale)
+    → ◌≡◌ {A = HouseReply} (Work one sale) (Work other given) → one ≡ other
+same_work one other sale given is = cc
+
+work_stands : (command : HouseCommand) → GivesWork command → (later : Option Auction)
+    (auction : Auction) (sale : Sale) → reply_to command later ≡ Work auction sale
+    → later ≡ Some auction
+work_stands command works None auction sale is = cc
+work_stands command works (Some later) auction sale is =
+    ap Some (same_work later auction (sale_in later) sale (sym (works later) ∙ is))
+
+gave_by : (command : HouseCommand) → GivesWork command → (refusal : Option HouseErr)
+    (answer later : Option Auction) (auction : Auction) (sale : Sale)
+    → (step_by refusal command answer later).reply ≡ Work auction sale
+    → (refusal ≡ None) × (option_or later answer ≡ Some auction)
+    × ((step_by refusal command answer later).kept ≡ later)
+gave_by command works (Some refusal) answer later auction sale is = cc
+gave_by command works None answer later auction sale is =
+    (refl, work_stands command works (option_or later answer) auction sale is, refl)
+
+-- a command that gave work was not refused, and the auction of the work stands under its id
+record Gave (old new : Ledger) (command : HouseCommand) (auction : Auction) : Type 0 where
+  passes : refusal_of command (get old (id_of command)) ≡ None
+  later : option_or (kept_by command (get old (id_of command))) (get old (id_of command))
+      ≡ Some auction
+  stands : get new (id_of command) ≡ Some auction
+
+gave : (old new : Ledger) (command : HouseCommand) → GivesWork command → (auction : Auction)
+    (sale : Sale) → house_step old command ≡ (Work auction sale, new)
+    → Gave old new command auction
+unfolding step_at
+gave old new command works auction sale is =
+    let id = id_of command in
+    let answer = get old id in
+    let by = gave_by command works (refusal_of command answer) answer (kept_by command answer)
+    auction sale (ap (λ (r : HouseReply × Ledger). r.0) is) in
+    record {
+      passes = by.0;
+      later = by.1;
+      stands = ap (λ (r : HouseReply × Ledger). get r.1 id) (sym is)
+          ∙ here_after old id (step_at command answer).kept
+          ∙ ap (λ k. option_or k answer) by.2 ∙ by.1;
+    }
+
+-- ---- what lasts
+
+-- the last ledger has an auction under the id whose board is that of this one
+record Published (last : Ledger) (id : List ℕ) (auction : Auction) : Type 0 where
+  later : Auction
+  stands : get last id ≡ Some later
+  board_is : board_of later ≡ board_of auction
+
+-- it has this auction there, which answered the challenge, and whose reply is accepted
+record Replied (last : Ledger) (id : List ℕ) (challenge : Challenge) (auction : Auction) : Type 0
+  where
+    stands : get last id ≡ Some auction
+    challenge_is : challenge_of auction.phase ≡ Some challenge
+    accepted : Accepts (board_of auction) (challenge_text challenge) (reply_of auction challenge)
+
+published_by : (last : Ledger) (id : List ℕ) (auction : Auction) (answer : Option Auction)
+    → get last id ≡ answer → IsSomeAnd answer (λ later. board_of later ≡ board_of auction)
+    → Published last id auction
+published_by last id auction None at is = absurd is
+published_by last id auction (Some later) at is =
+    record { later = later; stands = at; board_is = is }
+
+proved_lasts : (old new last : Ledger) (id seed : List ℕ) (auction : Auction) (sale : Sale)
+    → house_step old (Prove id seed) ≡ (Work auction sale, new) → KeepsAnswers new last
+    → Published last id auction
+proved_lasts old new last id seed auction sale is keeps =
+    let did = gave old new (Prove id seed) (λ a. refl) auction sale is in
+    let seeded = prove_seeds id seed (get old id) auction did.passes did.later in
+    published_by last id auction (get last id) refl
+    (board_stays auction seed auction.phase (get last id) seeded.seed_is seeded.seed_is
+    (keeps_at new last id auction keeps did.stands))
+
+asked_of : (auction : Auction) (challenge : Challenge) → IsAuction auction
+    → challenge_of auction.phase ≡ Some challenge → IsChallengeTo auction challenge
+asked_of auction challenge right is = record {
+  right = subst (λ c. IfSome c IsChallenge) is right.held.challenge;
+  one_bit_each = subst (λ c. IfSome c (λ (k : Challenge). length k.bits ≡ auction.lanes)) is
+      right.held.bits;
+}
+
+answered_lasts : (old new last : Ledger) (id : List ℕ) (challenge : Challenge) (auction : Auction)
+    (sale : Sale) → IsLedger new → house_step old (Answer id challenge) ≡ (Work auction sale, new)
+    → KeepsAnswers new last → Replied last id challenge auction
+answered_lasts old new last id challenge auction sale ledger is keeps =
+    let did = gave old new (Answer id challenge) (λ a. refl) auction sale is in
+    let asked = answer_challenges id challenge (get old id) auction did.passes did.later in
+    let under : IsKeptUnder id auction =
+    subst (λ answer. IfSome answer (IsKeptUnder id)) did.stands (ledger id) in
+    let proved = proved_from auction asked.seed under.right asked.seeded.seed_is asked.seeded.tapes
+    in
+    record {
+      stands = answer_stays auction challenge auction.phase (get last id) asked.challenge_is
+          (keeps_at new last id auction keeps did.stands);
+      challenge_is = asked.challenge_is;
+      accepted = answers_are_accepted auction challenge proved
+          (asked_of auction challenge under.right asked.challenge_is);
+    }
+
+published : (all : List Served) (old last : Ledger) (id : List ℕ) (auction : Auction)
+    → StepsRight all old last → Proves all id auction → Published last id auction
+published all old last id auction steps (seed, sale, among) =
+    let one = led all (done (Prove id seed) (Work auction sale)) old last steps among in
+    proved_lasts one.before one.after last id seed auction sale one.steps one.keeps
+
+replied : (all : List Served) (old last : Ledger) (id : List ℕ) (challenge : Challenge)
+    (auction : Auction) → StepsRight all old last → Answers all id challenge auction
+    → Replied last id challenge auction
+replied all old last id challenge auction steps (sale, among) =
+    let one = led all (done (Answer id challenge) (Work auction sale)) old last steps among in
+    answered_lasts one.before one.after last id challenge auction sale one.right one.steps one.keeps
+
+module _ {S : Type 0} (g : Ghosts S) (settled : IsSettled g) where
+  pub answers_are_one : (all : List Served) (old new : Held S) (ledger : Ledger) (id : List ℕ)
+      (one other : Challenge) (first second : Auction) → Serves g all old new
+      → Tells g old ledger → Answers all id one first → Answers all id other second
+      → (one ≡ other) × (first ≡ second)
+  answers_are_one all old new ledger id one other first second serves tells here there =
+      let it = serve g settled all old new ledger serves tells in
+      let a = replied all ledger it.0 id one first it.1 here in
+      let b = replied all ledger it.0 id other second it.1 there in
+      let same = same_Some first second (sym a.stands ∙ b.stands) in (
+        same_Some one other (sym a.challenge_is
+            ∙ ap (λ (k : Auction). challenge_of k.phase) same ∙ b.challenge_is),
+        same,
+      )
+
+  pub boards_are_one : (all : List Served) (old new : Held S) (ledger : Ledger) (id : List ℕ)
+      (first second : Auction) → Serves g all old new → Tells g old ledger
+      → Proves all id first → Proves all id second → board_of first ≡ board_of second
+  boards_are_one all old new ledger id first second serves tells here there =
+      let it = serve g settled all old new ledger serves tells in
+      let a = published all ledger it.0 id first it.1 here in
+      let b = published all ledger it.0 id second it.1 there in
+      sym a.board_is ∙ ap board_of (same_Some a.later b.later (sym a.stands ∙ b.stands))
+      ∙ b.board_is
+
+  pub answers_accepted : (all : List Served) (old new : Held S) (ledger : Ledger) (id : List ℕ)
+      (challenge : Challenge) (first second : Auction) → Serves g all old new
+      → Tells g old ledger → Proves all id first → Answers all id challenge second
+      → Accepts (board_of first) (challenge_text challenge) (reply_of second challenge)
+  answers_accepted all old new ledger id challenge first second serves tells here there =
+      let it = serve g settled all old new ledger serves tells in
+      let a = published all ledger it.0 id first it.1 here in
+      let b = replied all ledger it.0 id challenge second it.1 there in
+      subst (λ board. Accepts board (challenge_text challenge) (reply_of second challenge))
+      (ap board_of (same_Some second a.later (sym b.stands ∙ a.stands)) ∙ a.board_is) b.accepted
