@@ -111,7 +111,8 @@ step_is_call old new command reply is = is
 step_found : (old : Ledger) (command : HouseCommand) (answer : Option Auction)
     → answer ≡ get old (id_of command)
     → house_step old command
-    ≡ ((step_at command answer).reply, ledger_after old (id_of command) (step_at command answer).kept)
+    ≡ ((step_at command answer).reply,
+    ledger_after old (id_of command) (step_at command answer).kept)
 step_found old command answer is =
     ap (λ a. ((step_at command a).reply, ledger_after old (id_of command) (step_at command a).kept))
     (sym is)
@@ -180,7 +181,8 @@ made_leads nothing acts old new right made leads = nothing_leads acts old new ma
 made_keeps : (served : Served) (old new : Ledger) → StepsTo served old new → KeepsAnswers old new
 made_keeps (done command reply) old new is =
     call_keeps old new command reply (step_is_call old new command reply is)
-made_keeps (halted command) old new (inl same) = subst (KeepsAnswers old) (sym same) (keeps_same old)
+made_keeps (halted command) old new (inl same) =
+    subst (KeepsAnswers old) (sym same) (keeps_same old)
 made_keeps (halted command) old new (inr is) =
     subst (KeepsAnswers old) (sym is)
     (call_keeps old (house_step old command).1 command (house_step old command).0

@@ -13,8 +13,8 @@ use Rattle.vk_house.specs.Steps.{step_at, house_step}
 use Rattle.vk_store_laws.specs.Runs.{Act, found, kept, stopped, Runs}
 
 -- what is served at a store: a command is done, with this reply; one is stopped while it keeps what
--- its step keeps; or nothing is kept, as where the keeper or want of memory refuses a command, where
--- one is stopped before it keeps anything, and where the store is opened again between two
+-- its step keeps; or nothing is kept, as where the keeper or want of memory refuses a command,
+-- where one is stopped before it keeps anything, and where the store is opened again between two
 pub data Served : Type 0 where
   done : HouseCommand → HouseReply → Served
   halted : HouseCommand → Served
@@ -48,7 +48,8 @@ IsMade nothing acts = AllByRecursion KeepsNothing acts
 
 -- ---- what becomes of a ledger
 
--- a command that is done is its step. Of one that is stopped nothing is kept, or what its step keeps
+-- a command that is done is its step. Of one that is stopped nothing is kept, or what its step
+-- keeps
 abbrev pub StepsTo : Served → Ledger → Ledger → Type 0
 StepsTo (done command reply) old new = house_step old command ≡ (reply, new)
 StepsTo (halted command) old new = (new ≡ old) ⊎ (new ≡ (house_step old command).1)
