@@ -68,6 +68,13 @@ def trials(program):
     return f"{heads['#']} trials with {sum(heads.values()) - heads['#'] - heads['-']} steps; "
 
 
+def sizes(program):
+    """How many runs of commands a program counts that says at its end how many of each there were, and how many of their ends."""
+    with open(os.path.join(TOP, "crates", program, "stdout"), encoding="utf-8") as file:
+        runs = [int(line.split(" ")[-1]) for line in file if line.startswith("runs of ")]
+    return f"{sum(runs)} runs, to {len(runs)} ends of commands; "
+
+
 def by_command(runs):
     """How many runs there are of each command, the most first, and of words that name none."""
     counts = Counter(run[2].split(" ")[0] for run in runs)
@@ -101,7 +108,8 @@ def rows():
     for program, what, data_of in (("trials", "whole auctions and claims, matchings, and samples over files that stay as they are", ""),
                                    ("fault_trials", "cut files, and a fault at each call", ""),
                                    ("far_trials", "the largest files, and damage at far places", ""),
-                                   ("edge_trials", "the real files and an output, and calls to the system that go wrong", trials("edge_trials"))):
+                                   ("edge_trials", "the real files and an output, and calls to the system that go wrong", trials("edge_trials")),
+                                   ("size_trials", "every command at every size", sizes("size_trials"))):
         yield f"`{program}`, a program that tries {what}", f"{data_of}{lines(program, 'stdout')} lines", "`rt run` in the crate"
     with open(os.path.join(TOP, "crates", "vickrey", "args"), encoding="utf-8") as file:
         words = " ".join(file.read().split())
