@@ -20,8 +20,8 @@ use std::alloc::Global;
 use vk_bids::{ConfrontErr, Confrontation, SecretAndReplies, TwoReplies, confront, extract};
 use vk_effect::Said;
 use vk_io::{OutsideErr, Shelf};
-use vk_report::read_report;
 use vk_judge::VErr;
+use vk_report::read_report;
 use vk_verifier::verdict;
 use vk_words::{ConfrontNames, ExtractNames, VerifyNames};
 

@@ -20,8 +20,8 @@ use std::alloc::Global;
 use vk_bids::{ConfrontErr, Confrontation, confrontation_line};
 use vk_effect::{Said, malformed, missing, too_long};
 use vk_io::{OutsideErr, Shelf};
-use vk_residue::NoMemory;
 use vk_judge::VErr;
+use vk_residue::NoMemory;
 use vk_words::ConfrontNames;
 
 /// The line of a confrontation, with that status.

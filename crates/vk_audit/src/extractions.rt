@@ -18,8 +18,8 @@ use std::alloc::Global;
 use vk_bids::{Extraction, clash_line, extraction_lines};
 use vk_effect::Said;
 use vk_io::OutsideErr;
-use vk_residue::NoMemory;
 use vk_judge::VErr;
+use vk_residue::NoMemory;
 use vk_words::ExtractNames;
 
 /// What is said of a reply that isn't accepted, or of what two accepted replies come to. A clash

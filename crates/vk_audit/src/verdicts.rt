@@ -10,9 +10,9 @@ ghost use Rattle.vk_audit.specs.Verdicts.{IsOfFile, fault_text, judged_said, nam
 use std::alloc::Global;
 use vk_effect::{Said, malformed, missing, refused, too_long};
 use vk_io::OutsideErr;
+use vk_judge::{Part, VErr};
 use vk_residue::NoMemory;
 use vk_text::ShortText;
-use vk_judge::{Part, VErr};
 use vk_verifier::BoardVerdict;
 use vk_wire::WireFault;
 use vk_words::ExtractNames;

@@ -19,9 +19,9 @@ use std::alloc::Global;
 use vk_board::{Front, SealLines};
 use vk_commit::TwoOpenings;
 use vk_io::{OutsideErr, Shelf};
+use vk_judge::{TwoReplies, VErr};
 use vk_lines::{Lines, ReadErr, StartErr};
 use vk_seal::{Mismatch, Seal, Secret, matches, read_secret};
-use vk_judge::{TwoReplies, VErr};
 use vk_verifier::BoardVerdict;
 
 /// The names of the files that a secret is confronted with, and its own.

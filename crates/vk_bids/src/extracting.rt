@@ -12,10 +12,10 @@ use crate::bids::{LaneBids, OpenedBid};
 use std::alloc::Global;
 use vk_board::SealLines;
 use vk_extractor::{LaneErr, extract_lane};
+use vk_judge::Statement;
 use vk_residue::NoMemory;
 use vk_row::LaneCase;
 use vk_seq::Seq;
-use vk_judge::Statement;
 use vk_wire::Shown;
 
 /// The values of the seals in the lane, counted from 1, from what was accepted for bit 0 and what

@@ -17,8 +17,8 @@ use std::alloc::Global;
 use vk_board::{Front, Head};
 use vk_commit::TwoOpenings;
 use vk_io::{OutsideErr, Shelf};
-use vk_seq::Seq;
 use vk_judge::{TwoReplies, VErr};
+use vk_seq::Seq;
 use vk_verifier::{BoardCourse, BoardVerdict, TwoChecker};
 
 /// The bids that two accepted replies give, and what stands on the board before its first lane.

@@ -12,10 +12,10 @@ use crate::extracting::extract_bids;
 use std::alloc::Global;
 use vk_commit::TwoOpenings;
 use vk_extractor::LaneErr;
+use vk_judge::{LaneChecker, Statement, TwoLane};
 use vk_residue::NoMemory;
 use vk_row::LaneCase;
 use vk_seq::Seq;
-use vk_judge::{LaneChecker, Statement, TwoLane};
 use vk_wire::Shown;
 
 /// The bids of the lanes so far, or the first clash.

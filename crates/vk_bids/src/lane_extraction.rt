@@ -13,8 +13,8 @@ use crate::extraction::Extraction;
 use crate::gathering::{Gathered, with_lane};
 use std::alloc::Global;
 use vk_io::{OutsideErr, Shelf};
-use vk_seq::Seq;
 use vk_judge::{Fault, Finding, LaneChecker, Statement, TwoAttempts};
+use vk_seq::Seq;
 
 /// What two accepted replies open behind a front.
 #[derive(Debug, Drop)]

@@ -11,9 +11,9 @@ use crate::head::ClaimHead;
 use crate::verdict::ClaimVerdict;
 use std::alloc::Global;
 use vk_io::{OutsideErr, Shelf};
+use vk_judge::{Part, Statement, in_part, known};
 use vk_lines::Lines;
 use vk_residue::NoMemory;
-use vk_judge::{Part, Statement, in_part, known};
 
 /// A claim: the head of its file, and what the lanes are to show, whose circuit is that of the
 /// public part.

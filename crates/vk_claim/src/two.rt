@@ -14,8 +14,8 @@ use crate::verdict::ClaimVerdict;
 use std::alloc::Global;
 use std::marker::Model;
 use vk_io::{OutsideErr, Shelf};
-use vk_plan::Plan;
 use vk_judge::{Fault, Finding, LaneChecker, TwoAttempts, TwoLane, TwoReplies, VErr};
+use vk_plan::Plan;
 
 /// What two replies to a claim file come to.
 pub type ClaimFinding = Finding<ClaimVerdict>;

@@ -4,12 +4,12 @@ ghost use Rattle.std.specs.List.{flat_map};
 ghost use Rattle.vk_io.specs.Reads.{OnlyReads};
 ghost use Rattle.vk_claims.specs.Texts.{claim_read, read_said};
 
+use crate::circuits::ClaimCircuits;
 use crate::names::claim_names;
 use crate::summary::opened;
 use std::alloc::Global;
 use vk_audit::{replies_of, unread};
 use vk_claim::extract_claim;
-use crate::circuits::ClaimCircuits;
 use vk_effect::Said;
 use vk_io::{OutsideErr, Shelf};
 

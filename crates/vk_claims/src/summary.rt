@@ -6,11 +6,11 @@ ghost use Rattle.vk_claim.specs.Texts.{kind_word};
 ghost use Rattle.vk_claims.specs.Claims.{kind_in};
 ghost use Rattle.vk_claims.specs.Texts.{made_text, opened_said};
 
+use crate::extractions::claim_extracted;
 use crate::names::claim_names;
 use std::alloc::Global;
 use vk_bids::Extraction;
 use vk_claim::{ClaimExtraction, OpenedClaim};
-use crate::extractions::claim_extracted;
 use vk_effect::Said;
 use vk_plan::Plan;
 use vk_residue::NoMemory;

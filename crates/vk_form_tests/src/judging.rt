@@ -17,11 +17,13 @@ use std::alloc::Global;
 use vk_bids::{Extraction, LaneExtraction, extract_behind};
 use vk_board::{SealLines, read_seal_lines};
 use vk_io::Shelf;
+use vk_judge::{
+    Attempt, Fault, Halt, OneReply, Part, Statement, TwoReplies, VErr, in_part, judge_behind, known,
+};
 use vk_lines::Lines;
 use vk_plan::Circuit;
 use vk_residue::NoMemory;
 use vk_seq::Seq;
-use vk_judge::{Attempt, Fault, Halt, OneReply, Part, Statement, TwoReplies, VErr, in_part, judge_behind, known};
 
 /// Reads the head and the seals of a sum file: what its lanes are to show.
 #[tactic(auto, unfolding(crate::specs::Judging::statement_at))]

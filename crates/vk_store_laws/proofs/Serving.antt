@@ -111,8 +111,10 @@ step_is_call old new command reply is = is
 step_found : (old : Ledger) (command : HouseCommand) (answer : Option Auction)
     → answer ≡ get old (id_of command)
     → house_step old command
-    ≡ ((step_at command answer).reply,
-    ledger_after old (id_of command) (step_at command answer).kept)
+    ≡ (
+      (step_at command answer).reply,
+      ledger_after old (id_of command) (step_at command answer).kept,
+    )
 step_found old command answer is =
     ap (λ a. ((step_at command a).reply, ledger_after old (id_of command) (step_at command a).kept))
     (sym is)

@@ -9,9 +9,7 @@ mod two_laws;
 
 pub use answers::{BoardVerdict, TwoVerdict};
 pub use boards::verdict;
-pub use laws::{
-    a_verdict_accepts_what_is_accepted, verdicts_are_given_exactly_where_they_hold,
-};
+pub use laws::{a_verdict_accepts_what_is_accepted, verdicts_are_given_exactly_where_they_hold};
 pub use two_boards::{BoardCourse, TwoChecker, as_two};
 pub use two_laws::{
     a_finding_is_by_both_verdicts, accepted_replies_give_their_values,

@@ -20,9 +20,7 @@ use std::alloc::Global;
 use std::marker::Model;
 use vk_board::{Front, Head, read_front};
 use vk_io::{OutsideErr, Shelf};
-use vk_judge::{
-    Fault, Finding, Halt, LaneChecker, TwoAttempts, TwoLane, TwoReplies, VErr, known,
-};
+use vk_judge::{Fault, Finding, Halt, LaneChecker, TwoAttempts, TwoLane, TwoReplies, VErr, known};
 use vk_plan::Plan;
 
 /// A board whose lanes are read beside two replies: its head, the place of the winner's seal, from

@@ -1,9 +1,9 @@
 // Files of more than 2^30 bytes, whose bytes nothing asks for.
 use std::test::Fail;
 use vk_io::{OutsideErr, Shelf};
+use vk_judge::{Part, VErr};
 use vk_lines::{Lines, StartErr, Step};
 use vk_report::{ReportErr, read_report};
-use vk_judge::{Part, VErr};
 use vk_verifier::{TwoChecker, verdict};
 
 /// A shelf whose every file has a length and no bytes.
