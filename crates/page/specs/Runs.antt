@@ -1,6 +1,6 @@
 -- What a run over files in memory is: the promises of `run`, at these files, no auction and no
 -- text.
-use Rattle.std.specs.Prelude.{◌≡◌, ◌≢◌, ◌⊎◌, ℕ, List, [], Option, Some, IfSome}
+use Rattle.std.specs.Prelude.{◌≡◌, ◌≢◌, ℕ, List, [], Option, Some, IfSome}
 use Rattle.std.specs.FinMap.{empty}
 use Rattle.vk_io.specs.Files.{Files}
 use Rattle.vk_io.specs.Writing.{written}
@@ -11,7 +11,7 @@ use Rattle.vk_words.specs.Commands.{ClaimSample, Coin, Seal, command_words}
 use Rattle.vk_words.specs.Orders.{SealWords}
 use Rattle.vk_effect.specs.Effects.{Effect, Outside, outside, stores}
 use Rattle.vk_coins.specs.Meaning.{MakesChallenge}
-use Rattle.vk_app.specs.Commands.{DoesWork, StopsWork, Work, work_on}
+use Rattle.vk_app.specs.Commands.{DoesWork, Work, work_on}
 use Rattle.vk_app.specs.Promises.{Audits, ClaimExtractIsComplete, ClaimExtractIsSound, ClaimHeadline, Claims, ExtractIsComplete, ExtractIsSound, Headline, HoldsCeremony, KeepsHouse, RunLeaves, SamplesMatching, TellsUsage}
 use Rattle.vk_app.specs.Sealing.{Seals}
 use Rattle.page.specs.declared.room.WantedName.{WantedName}
@@ -35,17 +35,14 @@ work_alone files words = work_on (Some files) (Some no_auctions) words
 
 -- ---- the promises of `run`
 
--- a run of these words over these files ended with that status, left these files and auctions, and
--- printed that text
+-- a run of these words over these files came to its end with that status, left these files and
+-- auctions, and printed that text
 pub record IsPageRun (words : List (List ℕ)) (files : Files) (status : ℕ) (left : Files)
     (kept : Ledger) (text : List ℕ) : Type 0 where
-  -- all that the words do was done, or it was stopped
+  -- all that the words do was done
   pub done : IfSome (work_alone files words)
       (λ work. status ≢ 6 → status ≢ 9
       → DoesWork status work (outside_before files) (outside_after left kept text))
-  pub stopped : IfSome (work_alone files words)
-      (λ work. (status ≡ 6) ⊎ (status ≡ 9)
-      → StopsWork work (outside_before files) (outside_after left kept text))
   -- what two accepted replies come to
   pub sound : ExtractIsSound files words status (Some []) (Some text)
   pub complete : ExtractIsComplete files words status (Some []) (Some text)

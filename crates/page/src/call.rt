@@ -1,7 +1,7 @@
 //! The call.
 
-ghost use Rattle.std.specs.Prelude.{◌≡◌, ◌≢◌, IfOk, IfSome, Some, map, string_bytes};
-ghost use Rattle.vk_effect.specs.Effects.{Effect};
+ghost use Rattle.std.specs.Prelude.{◌≡◌, ◌≢◌, ◌<◌, IfOk, IfSome, Some, length, map, string_bytes};
+ghost use Rattle.vk_effect.specs.Effects.{Effect, IsEnd};
 ghost use Rattle.vk_app.specs.Commands.{Command};
 ghost use Rattle.page.specs.Handed.{handed_files, words_in};
 ghost use Rattle.page.specs.Runs.{HandsBack, HandsEffect, IsPageRun, no_auctions, work_alone};
@@ -9,10 +9,9 @@ ghost use Rattle.page.specs.Shown.{BeginsWith, IsBare, shown_bytes};
 
 use crate::folder::{NamedBytes, shelf_of};
 use crate::room::{WantedName, bare, show};
+use crate::sure::{SureKeeper, SureShelf, SureSink};
 use std::alloc::Global;
 use vk_app::run;
-use vk_io::{MemShelf, MemSink};
-use vk_keeper::MemKeeper;
 use vk_residue::NoMemory;
 use vk_words::words_of_line;
 
@@ -20,9 +19,9 @@ use vk_words::words_of_line;
 #[derive(Drop)]
 struct Ran {
     status: u8,
-    shelf: MemShelf,
-    keeper: MemKeeper,
-    out: MemSink,
+    shelf: SureShelf,
+    keeper: SureKeeper,
+    out: SureSink,
 }
 
 /// The words of the line. None where it isn't UTF-8, as of the words of a command line.
@@ -35,16 +34,16 @@ fn words_of(alloc: Global, line: &[u8]) -> Result<Vec<String>, NoMemory>
     }
 }
 
-/// Does what the words say over the shelf, and over a house that keeps no auction. Errs for want of
-/// memory alone.
-fn run_over(alloc: Global, words: &[String], shelf: MemShelf) -> Result<Ran, NoMemory>
-    ensures memory { IfOk result (λ ran. ran.status ≢ 9) }
+/// Does what the words say over the shelf, and over a house that keeps no auction. Errs where the
+/// run wanted memory.
+fn run_over(alloc: Global, words: &[String], shelf: SureShelf) -> Result<Ran, NoMemory>
+    ensures ended { IfOk result (λ ran. IsEnd ran.status) }
     ensures run { IfOk result (λ ran. IsPageRun (map string_bytes words.now) shelf.files ran.status
         ran.shelf.files ran.keeper.ledger ran.out.taken) }
 {
     let mut shelf = shelf;
-    let mut keeper = MemKeeper::new(alloc);
-    let mut out = MemSink::new(alloc);
+    let mut keeper = SureKeeper::new(alloc);
+    let mut out = SureSink::new(alloc);
     let status = run(alloc, words, &mut shelf, &mut keeper, &mut out);
     if status == 9 {
         return Err(NoMemory);
@@ -59,7 +58,7 @@ fn run_over(alloc: Global, words: &[String], shelf: MemShelf) -> Result<Ran, NoM
 
 /// Does what the line says over the files that are handed in. Errs for want of memory alone.
 fn run_line(alloc: Global, line: &[u8], files: &[NamedBytes<'_>]) -> Result<Ran, NoMemory>
-    ensures memory { IfOk result (λ ran. ran.status ≢ 9) }
+    ensures ended { IfOk result (λ ran. IsEnd ran.status) }
     ensures run { IfOk result (λ ran. IsPageRun (words_in line.now) (handed_files files.now)
         ran.status
         ran.shelf.files ran.keeper.ledger ran.out.taken) }
@@ -73,8 +72,11 @@ fn run_line(alloc: Global, line: &[u8], files: &[NamedBytes<'_>]) -> Result<Ran,
 /// Puts what was printed and the files that are wanted into the room, and answers the status; or 9,
 /// where they don't fit.
 fn hand_back(ran: &Ran, wanted: &[WantedName<'_>], room: &mut [u8]) -> u8
-    requires { ran.now.status ≢ 9 }
+    requires { IsEnd ran.now.status }
     ensures status { result ≢ 9 → result ≡ ran.now.status }
+    ensures never_failed { result ≢ 6 }
+    ensures small { result ≡ 9 → length room.old
+        < length (shown_bytes ran.now.out.taken ran.now.shelf.files wanted.now) }
     ensures begins { result ≢ 9
         → BeginsWith (shown_bytes ran.now.out.taken ran.now.shelf.files wanted.now) room.new }
     ensures bare { result ≡ 9 → IsBare room.new }
@@ -100,11 +102,13 @@ pub extern "C" fn page_run(
     ensures run { result ≢ 9 → HandsBack (words_in line.now) (handed_files files.now) wanted.now
         result room.new }
 
+    // No file, house or text in memory fails.
+    ensures never_failed { result ≢ 6 }
+
     // Where the words come to one effect, status, text and files are those of that effect.
     ensures effect { (effect : Effect)
         → work_alone (handed_files files.now) (words_in line.now) ≡ Some (Command effect)
-        → result ≢ 6 → result ≢ 9
-        → HandsEffect effect (handed_files files.now) wanted.now result room.new }
+        → result ≢ 9 → HandsEffect effect (handed_files files.now) wanted.now result room.new }
 
     // Nothing is handed back with status 9.
     ensures bare { result ≡ 9 → IsBare room.new }

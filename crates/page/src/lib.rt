@@ -5,6 +5,7 @@
 mod call;
 mod folder;
 mod room;
+mod sure;
 #[cfg(test)]
 mod tests;
 

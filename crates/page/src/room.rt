@@ -3,8 +3,8 @@
 ghost use Rattle.std.specs.Prelude.{◌≡◌, ◌≤◌, length, option_copied};
 ghost use Rattle.page.specs.Shown.{IsBare, Puts, held_under, shown_bytes, sized_bytes, wanted_bytes};
 
+use crate::sure::SureShelf;
 use std::str::from_utf8;
-use vk_io::MemShelf;
 
 /// The name of a file that is wanted behind the command.
 #[repr(C)]
@@ -50,7 +50,7 @@ fn put_wanted(room: &mut [u8], at: usize, held: Option<&[u8]>) -> Option<usize>
 
 /// What the shelf holds under that name. None where no file has it, and of a name that isn't UTF-8.
 #[tactic(auto, using(crate::proofs::Names::utf8_test, crate::proofs::Names::other_test))]
-fn held_under<'a>(shelf: &'a MemShelf, name: &[u8]) -> Option<&'a [u8]>
+fn held_under<'a>(shelf: &'a SureShelf, name: &[u8]) -> Option<&'a [u8]>
     ensures { option_copied result ≡ held_under shelf.now.files name.now }
 {
     match from_utf8(name) {
@@ -64,7 +64,7 @@ fn held_under<'a>(shelf: &'a MemShelf, name: &[u8]) -> Option<&'a [u8]>
 pub fn show(
     room: &mut [u8],
     text: &[u8],
-    shelf: &MemShelf,
+    shelf: &SureShelf,
     wanted: &[WantedName<'_>],
 ) -> Option<usize>
     ensures { Puts (shown_bytes text.now shelf.now.files wanted.now) 0 result room.old room.new }

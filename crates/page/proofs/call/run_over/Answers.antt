@@ -1,5 +1,11 @@
 -- The promises of `run`, of no auction and no text before it.
+use Rattle.page.proofs.Counts.{never_rose}
 use Rattle.page.proofs.call.run_over.Goals as goal
+
+-- no count of these can rise, so the run didn't fail
+pub returns-clause-ended : goal.returns-clause-ended
+returns-clause-ended c =
+    (λ failed. never_rose (c.run-status.ensures.fault failed), c.if-status-eq9.false)
 
 pub returns-clause-run : goal.returns-clause-run
 returns-clause-run c =
@@ -8,7 +14,6 @@ returns-clause-run c =
     let run = c.run-status.ensures in
     record {
       done = rw (keeps, prints) at run.done;
-      stopped = rw (keeps, prints) at run.stopped;
       sound = rw (prints) at run.sound;
       complete = run.complete;
       headline = rw (prints) at run.headline;
