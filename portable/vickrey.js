@@ -4,6 +4,7 @@
 "use strict";
 
 const fs = require("fs");
+const os = require("os");
 const path = require("path");
 const v8 = require("v8");
 const zlib = require("zlib");
@@ -20,9 +21,9 @@ const MODULE = path.join(__dirname, "vickrey.wasm.gz");
 const UNPACKED = 4 * 1024 * 1024; // room for it in one piece
 
 // When V8 compiles, which changes no answer. A function is compiled where it is first called. But the
-// commands that open the store call half of the code: for these all is compiled beforehand, by several
-// processors at once, in half the time. Well compiled is only what was busy. Of versions that nobody
-// tried none is set.
+// commands that open the store call half of the code: where there are several processors, all is
+// compiled beforehand for these, by all of them at once, in half the time. Well compiled is only what
+// was busy. Of versions that nobody tried none is set.
 const WHEN_CALLED = ["--wasm-lazy-compilation", "--wasm-lazy-validation"];
 const BEFOREHAND = ["--no-wasm-lazy-compilation"];
 const ONCE_BUSY = "--wasm-tiering-budget=10000000";
@@ -63,10 +64,17 @@ function moduleBytes() {
   }
 }
 
+// Whether a command's code is compiled beforehand. An old node doesn't say how many processors
+// there are.
+function isCompiledBeforehand(command) {
+  const processors = os.availableParallelism?.() ?? 1;
+  return processors > 1 && WITH_STORE.includes(command.toString());
+}
+
 // The module for these words, compiled as far as that is done beforehand.
 function moduleHere([, command = ""]) {
   if (TRIED.includes(version())) {
-    const when = WITH_STORE.includes(command.toString()) ? BEFOREHAND : WHEN_CALLED;
+    const when = isCompiledBeforehand(command) ? BEFOREHAND : WHEN_CALLED;
     [...when, ONCE_BUSY].forEach((flag) => v8.setFlagsFromString(flag));
   }
   return new WebAssembly.Module(moduleBytes());
