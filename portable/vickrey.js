@@ -20,10 +20,10 @@ const PROCESSORS = ["x64", "arm64", "riscv64", "loong64"];
 const MODULE = path.join(__dirname, "vickrey.wasm.gz");
 const UNPACKED = 4 * 1024 * 1024; // room for it in one piece
 
-// When V8 compiles, which changes no answer. A function is compiled where it is first called. But the
-// commands that open the store call half of the code: where there are several processors, all is
-// compiled beforehand for these, by all of them at once, in half the time. Well compiled is only what
-// was busy. Of versions that nobody tried none is set.
+// When V8 compiles, which changes no answer. A function is compiled where it is first called. But
+// the commands that open the store call half of the code: where there are several processors, all
+// is compiled beforehand for these, by all of them at once, in half the time. Well compiled is only
+// what was busy. Of versions that nobody tried none is set.
 const WHEN_CALLED = ["--wasm-lazy-compilation", "--wasm-lazy-validation"];
 const BEFOREHAND = ["--no-wasm-lazy-compilation"];
 const ONCE_BUSY = "--wasm-tiering-budget=10000000";
