@@ -151,8 +151,9 @@ const Audit = (() => {
 
   // ---- Two replies
 
-  // What was opened, seat by seat: the value of the first lane, and whether all lanes have it.
-  function openedRows(text) {
+  // What was opened, seat by seat: the value of the first lane, as it is `shown`, and whether all
+  // lanes have it.
+  function openedRows(text, shown) {
     const values = new Map();
     const rows = [];
     for (const words of text.split("\n").map((line) => line.split(" "))) {
@@ -160,15 +161,20 @@ const Audit = (() => {
         values.set(words[3], words[5]);
       } else if (words[0] === "seat") {
         const same = words[2] === "same";
-        rows.push([words[1], same ? values.get(words[1]) : "differs from lane to lane"]);
+        rows.push([words[1], same ? shown(values.get(words[1])) : "differs from lane to lane"]);
       }
     }
     return rows;
   }
 
+  // The bids of the announced auction are in its unit; other values are whole numbers.
   function extracted(place, answer) {
-    const heads = ["Seat", answer.words[0] === "extract" ? "Bid" : "Value"];
-    const rows = answer.status === 0 ? openedRows(answer.text) : [];
+    const isBoard = answer.words[0] === "extract";
+    const now = Announced.now();
+    const isAnnounced = isBoard && now && Outcome.headOf(answer.head).auction === now.auction;
+    const shown = (value) => (isAnnounced ? now.unit.amount(BigInt(value)) : value);
+    const heads = ["Seat", isBoard ? "Bid" : "Value"];
+    const rows = answer.status === 0 ? openedRows(answer.text, shown) : [];
     Parts.show(place, answer, rows.length ? [Parts.table("What was opened", heads, rows)] : []);
   }
 

@@ -184,16 +184,19 @@ const Fields = (() => {
 
   // The sentence where a form has another file than belongs there; its field gets the focus.
   async function otherFile(form) {
-    for (const field of form.querySelectorAll("input[type=file]")) {
-      for (const { look } of await looked(field)) {
-        const text = Kinds.other(look, kindsOf(field), placeOf(field));
-        if (text) {
-          goTo(field);
-          return text;
-        }
-      }
+    const fields = [...form.querySelectorAll("input[type=file]")];
+    const found = await Promise.all(fields.map(looked));
+    const told = fields.map((field, place) => {
+      const texts = found[place].map(({ look }) =>
+        Kinds.other(look, kindsOf(field), placeOf(field)),
+      );
+      return texts.find(Boolean);
+    });
+    const first = told.findIndex(Boolean);
+    if (first >= 0) {
+      goTo(fields[first]);
     }
-    return null;
+    return told[first] || null;
   }
 
   function give(field, files) {

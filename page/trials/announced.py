@@ -7,7 +7,7 @@ import sys
 from .desk import HERE, script
 from .hostile import drop
 from .made import BIDS, ID, LANES, OTHER_ID, WIDTH, announcement
-from .use import ACCEPTED
+from .use import ACCEPTED, TWO
 
 sys.path.insert(0, os.path.join(HERE, "..", "..", "checks"))
 from attack.announced import changed_announcement, fault_line  # noqa: E402
@@ -208,6 +208,16 @@ def bids_are_in_the_unit(desk):
         assert lines[1:4] == [f"auction {ID}", f"seat {seat}", f"bid {bid}"], lines[:4]
 
 
+def opened_bids_are_in_the_unit(desk):
+    """What two replies open, of the announced auction; of another one the plain numbers."""
+    for file, amounts in (("announcement", True), ("announcement-elsewhere", False)):
+        desk.made.put("announcement-elsewhere", announcement(auction=OTHER_ID))
+        take(desk.open("audit"), file)
+        shown = desk.use("extract", board=["board"], **TWO)
+        said = "0.{} EUR" if amounts else "{}"
+        assert shown.rows == [[str(seat), said.format(bid)] for seat, bid in BIDS.items()], shown
+
+
 def other_auctions_are_told(desk):
     """A file of another auction than the announced one, as soon as it is chosen."""
     take(desk.open())
@@ -245,6 +255,7 @@ ANNOUNCED = [
     faults_are_told,
     edges_are_told,
     bids_are_in_the_unit,
+    opened_bids_are_in_the_unit,
     other_auctions_are_told,
     results_go_with_it,
 ]

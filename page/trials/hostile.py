@@ -175,8 +175,8 @@ def names_are_texts(desk):
 
 
 def odd_files_are_refused(desk):
-    """No file, whatever is in it, is taken for what it isn't, and none hangs the page. Where the page
-    says that it is another file, the program would refuse it too."""
+    """No file, whatever is in it, is taken for what it isn't, and none hangs the page. Where the
+    page says that it is another file, the program would refuse it too."""
     for name in ("empty", "noise", "text", "only-end", "seal-7", "challenge-0110"):
         desk.open()
         for place in ("board", "reply", "challenge"):
