@@ -261,8 +261,10 @@ def other_files_are_told(desk):
         desk.browser.choose("#sell-take-files", desk.made.path(name))
         desk.browser.wait(
             "return document.getElementById('sell-take-work').textContent.includes(arguments[0])",
-            f"{name}: {called}; here seals and secrets belong.",
+            f"{name}: {called}",
         )
+        said = desk.browser.text("#sell-take-work")
+        assert said.endswith("; here seals and secrets belong."), (name, said)
     seller.take()
     seller.prove()
     cases = [[place, name] for place in DRAWN for name in CALLED]
