@@ -1,5 +1,6 @@
 """What is defined of a run: what a command does when it is done, and what it leaves when it is
 stopped."""
+import re
 import sqlite3
 from dataclasses import dataclass, field
 
@@ -7,17 +8,18 @@ from attack.runs import STORE, Ended
 from attack.stores import rows_beside
 
 ERRORS = {6: (b"outside fault\n", b"other store\n"), 9: (b"no memory\n",)}
+ADVICE = re.compile(rb"vickrey(: | [0-9]+\.[0-9]+: the first word names no command; )")
 EFFECT = "effect"
 
 
 def is_said(status, error, texts=None):
     """Whether a run of this status says on standard error what it has to: one of the texts that are
     defined of it, and behind that whatever a person is told. Words that are no command have a line
-    for a person alone."""
+    for a person alone, which has the program's version where the first word names no command."""
     texts = texts or ERRORS.get(status)
     if texts:
         return error.startswith(texts)
-    return error.startswith(b"vickrey: ") if status == 2 else not error
+    return bool(ADVICE.match(error)) if status == 2 else not error
 
 
 @dataclass
