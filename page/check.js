@@ -287,9 +287,8 @@ const Check = (() => {
 
   async function run(place) {
     const { turn } = place;
-    const challenge = await Parts.challengeOf("check");
     const file = given("check-board");
-    const look = await Kinds.look(file);
+    const [challenge, look] = await Promise.all([Parts.challengeOf("check"), Kinds.look(file)]);
     if (turn !== place.turn) {
       return;
     }

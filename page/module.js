@@ -126,17 +126,42 @@ function instanceOf(module) {
   }
 }
 
-// A call of the program that is laid out in the memory of a new instance. The bytes of each file
-// are put in their place there, and then it runs, once. It throws where a word holds a space, a
-// NoMemory where memory is wanting, and where the module itself stops, which would be a fault.
-// `words` and `wanted` are arrays of texts, or of bytes where they are no UTF-8; `sizes` has a name
-// and a length for each file; `roomSize` is what text and wanted files may take at most.
+// Bytes of a page of the module's memory, and of the smallest page of a system.
+const PAGE = 65536;
+const SYSTEM_PAGE = 4096;
+
+// Writes a zero to each page of new memory, where zeros are, so that the system hands it out now.
+function touch(bytes) {
+  for (let at = 0; at < bytes.length; at += SYSTEM_PAGE) {
+    bytes[at] = 0;
+  }
+  return bytes;
+}
+
+// A new instance that has more memory than it began with: for a room of that size, which a call
+// takes first and hardly fills, and so many bytes behind it that the system has handed out.
+function instanceWith(module, roomSize, size) {
+  const instance = instanceOf(module);
+  const { memory } = instance.exports;
+  const begin = memory.buffer.byteLength + roomSize;
+  memory.grow(Math.ceil((roomSize + size) / PAGE));
+  touch(new Uint8Array(memory.buffer, begin));
+  return instance;
+}
+
+// A call of the program that is laid out in the memory of a new instance, or of `instance`, which
+// had no call. The bytes of each file are put in their place there, and then it runs, once. It
+// throws where a word holds a space, a NoMemory where memory is wanting, and where the module
+// itself stops, which would be a fault. `words` and `wanted` are arrays of texts, or of bytes where
+// they are no UTF-8; `sizes` has a name and a length for each file; `roomSize` is what text and
+// wanted files may take at most.
 class Call {
-  constructor(module, words, sizes, wanted = [], roomSize = ROOM_SIZE) {
+  constructor(module, words, sizes, wanted = [], roomSize = ROOM_SIZE, instance = null) {
     const line = lineOf(words);
     this.wanted = wanted;
-    this.instance = instanceOf(module);
+    this.instance = instance || instanceOf(module);
     this.memory = new Memory(this.instance.exports);
+    this.room = this.memory.take(Math.max(8, roomSize));
     const lineSlice = this.memory.put(line);
     const files = sizes.map(([name, size]) => [
       this.memory.put(bytesOf(name)),
@@ -146,7 +171,6 @@ class Call {
     const filesSlice = this.memory.putStructs(files.length, files.flat());
     const wantedSlice = this.memory.putStructs(wanted.length, wantedSlices);
     this.places = files.map(([, place]) => place);
-    this.room = this.memory.take(Math.max(8, roomSize));
     this.slices = [lineSlice, filesSlice, wantedSlice, this.room];
   }
 

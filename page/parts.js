@@ -20,6 +20,9 @@ const Parts = (() => {
   // work on this page.
   const setting = { queue: null, code: null, module: null };
 
+  // The room for the answer of a command, where its tool names none
+  const ROOM_SIZE = 16 * 1024 * 1024;
+
   // Milliseconds that the practice may take, a small part of which it needs
   const PRACTICE_TIME = 5000;
 
@@ -202,7 +205,7 @@ const Parts = (() => {
   // with its `file`, and `from` where that was made on this page. Of the first the answer has the
   // digest and the head too.
   function command(place, doing, words, files, more, then) {
-    const { wanted = [], roomSize = 16 * 1024 * 1024, hidden = {} } = more;
+    const { wanted = [], roomSize = ROOM_SIZE, hidden = {} } = more;
     const held = Object.entries(files).map(([name, { file }]) => [name, file]);
     const size = held.reduce((sum, [, file]) => sum + file.size, 0);
     const main = held.length ? held[0][0] : null;
@@ -395,6 +398,15 @@ const Parts = (() => {
     }
   }
 
+  // Memory is taken for the files of a form before its button is pressed.
+  function expectFiles(form) {
+    const fields = [...form.querySelectorAll("input[type=file]")];
+    const sizes = fields.flatMap(({ files }) => [...files].map((file) => file.size));
+    const size = sizes.reduce((sum, each) => sum + each, 0);
+    const longest = Math.max(0, ...sizes);
+    setting.queue.expect({ module: setting.module, roomSize: ROOM_SIZE, size, longest });
+  }
+
   // A tool is a form with a place below it. What it showed goes when something in it is changed,
   // but not where it `keeps` what it made.
   function beginTool(id, run, keeps = false) {
@@ -414,6 +426,7 @@ const Parts = (() => {
       }
     });
     const changed = () => {
+      expectFiles(form);
       // What was pressed and still looks at its files would judge some of before and some of now.
       const had = place.following > 0 || place.result.hasChildNodes();
       if (!keeps && (place.cease(CHANGED) || had)) {

@@ -11,8 +11,15 @@ const Work = (() => {
   // More than the heads of all boards and claim files that there can be
   const HEAD = 6 * 1024 * 1024;
 
-  // Bytes whose digest takes longer than another Worker does
+  // Bytes whose digest takes longer than another Worker does, and for which memory is taken before
+  // they are there
   const LONG = 2 * 1024 * 1024;
+
+  // The most memory that is taken before it is wanted, for the module and for a copy; and what the
+  // module takes beside the files
+  const MOST_AHEAD = 96 * 1024 * 1024;
+  const MOST_COPIED = 32 * 1024 * 1024;
+  const BESIDE = 4 * 1024 * 1024;
 
   const NEWLINE = 0x0a;
 
@@ -209,10 +216,32 @@ const Work = (() => {
     return module || load(code);
   }
 
+  // What was taken in this Worker before it was wanted: an instance of the module that had no call,
+  // and memory for a copy of a file.
+  let taken = null;
+
+  // Takes memory for files that come to `size` bytes, the longest of them to `longest`: the system
+  // takes longer to hand memory out than it takes to fill. In the module each file lies twice, and
+  // a block has up to a quarter more than what it is for. Where that fails the call will say it.
+  function provide({ module, roomSize, size, longest }) {
+    const inModule = Math.min(MOST_AHEAD, 2.25 * size + BESIDE);
+    try {
+      const instance = instanceWith(module, roomSize, inModule);
+      taken = { instance, copy: touch(new Uint8Array(Math.min(MOST_COPIED, longest))) };
+    } catch {
+      taken = null;
+    }
+  }
+
+  // Memory for a copy of so many bytes, as far as there is none yet.
+  function roomForCopy(size) {
+    return taken && size <= taken.copy.length ? taken.copy.subarray(0, size) : room(size);
+  }
+
   // What a Worker can be asked to do, by the word `task`.
   const TASKS = {
     async digest({ file, name }) {
-      const bytes = room(file.size);
+      const bytes = roomForCopy(file.size);
       await fill([bytes], file, name);
       return digestOf(bytes);
     },
@@ -233,9 +262,10 @@ const Work = (() => {
     // there is a `port`, it leads to a Worker for that digest.
     async command({ module, code, words, files, main, wanted, roomSize, port }) {
       const sizes = files.map(([name, file]) => [name, file.size]);
-      const begun = new Call(await compiled({ module, code }), words, sizes, wanted, roomSize);
+      const own = taken ? null : await compiled({ module, code });
+      const begun = new Call(own, words, sizes, wanted, roomSize, taken && taken.instance);
       const number = files.findIndex(([name]) => name === main);
-      const copy = port ? room(files[number][1].size) : null;
+      const copy = port ? roomForCopy(files[number][1].size) : null;
       const places = (at) => (at === number && copy ? [copy] : []).concat(begun.place(at));
       await Promise.all(files.map(([name, file], at) => fill(places(at), file, name)));
       if (number < 0) {
@@ -270,10 +300,15 @@ const Work = (() => {
   // What becomes of a promise, as it is told to who asked.
   const outcome = (promise) => promise.then((answer) => ({ answer }), faultOf);
 
-  // The Worker's end: one message comes, and one with an answer or a fault goes back.
+  // The Worker's end: one message comes, and one with an answer or a fault goes back. Before it
+  // there may be one that asks for memory, to which nothing is answered.
   function serve(scope) {
     scope.onmessage = async ({ data }) => {
-      scope.postMessage(await outcome(TASKS[data.task](data)));
+      if (data.task === "provide") {
+        provide(data);
+      } else {
+        scope.postMessage(await outcome(TASKS[data.task](data)));
+      }
     };
   }
 
@@ -285,8 +320,8 @@ const Work = (() => {
   // The page's end. A piece of work has a message for the Worker, and is told what becomes of it by
   // its methods began(), answered(answer) and failed(fault, about). While nothing is asked for, the
   // `practice` is done, which is work that nobody waits for; then a spare Worker is made for the
-  // next piece of work. What is added while the practice runs stops it and calls its halted(), and
-  // it begins anew later.
+  // next piece of work, and takes the memory that is `expected` to be wanted. What is added while
+  // the practice runs stops it and calls its halted(), and it begins anew later.
   class Queue {
     constructor(address) {
       this.address = address;
@@ -294,6 +329,8 @@ const Work = (() => {
       this.running = null;
       this.workers = [];
       this.spare = null;
+      this.expected = null;
+      this.hasMemory = false;
       this.practice = null;
     }
 
@@ -362,6 +399,31 @@ const Work = (() => {
         this.start(this.practice, null);
       } else {
         this.prepare();
+        this.provide();
+      }
+    }
+
+    // Expects files that come to so many bytes, the longest to `longest`, in the next piece of
+    // work, with the module and a room of that size; or none that are long.
+    expect({ module, roomSize, size, longest }) {
+      const isLong = module !== null && size > LONG;
+      const expected = isLong ? { task: "provide", module, roomSize, size, longest } : null;
+      if (expected?.size === this.expected?.size) {
+        return;
+      }
+      this.expected = expected;
+      if (this.spare && this.hasMemory) {
+        this.spare.terminate();
+        this.spare = null;
+      }
+      whenIdle(() => this.rest());
+    }
+
+    // Has the spare Worker take the memory that is expected to be wanted.
+    provide() {
+      if (this.spare && this.expected && !this.hasMemory) {
+        this.hasMemory = true;
+        this.spare.postMessage(this.expected);
       }
     }
 
@@ -379,6 +441,7 @@ const Work = (() => {
           }
         };
         this.spare = spare;
+        this.hasMemory = false;
       } catch {
         this.spare = null;
       }

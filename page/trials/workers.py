@@ -43,9 +43,9 @@ def state(desk, number):
     return desk.run(ALL)[number]
 
 
-def ends(desk, number, task):
+def ends(desk, number, *tasks):
     desk.browser.wait("return workers[arguments[0]].ended", number)
-    assert state(desk, number) == [[task], True], desk.run(ALL)
+    assert state(desk, number) == [list(tasks), True], desk.run(ALL)
 
 
 @watching
@@ -121,6 +121,44 @@ def a_long_digest_has_a_worker(desk):
     assert sum(not ended for _, ended in desk.run(ALL)) == 1, desk.run(ALL)
 
 
+def provided(desk):
+    """The number of the Worker that has memory for the files that are chosen, when there is one."""
+    body = f"const found = (() => {{ {SPARE} }})();"
+    asks = "return found >= 0 && workers[found].asked[0] === 'provide' && found + 1"
+    return desk.browser.wait(f"{body} {asks}") - 1
+
+
+@watching
+def memory_is_there_before_it_is_wanted(desk):
+    """The Worker that stands ready takes memory for long files, as long as they are chosen; and
+    the same is said with it, of files of the expected length and of longer ones."""
+    made = desk.made
+    for name, more in {"longer": 3_000_000, "longest": 40_000_000}.items():
+        made.put(name, made.bytes("board") + b"x" * more)
+    long = dict(ACCEPTED, board=["longer"])
+    desk.open().fill("check", **long)
+    for reply in (["longest"], ACCEPTED["reply"]):
+        number = provided(desk)
+        desk.fill("check", reply=reply)
+        ends(desk, number, "provide")
+    for _ in range(2):
+        number = provided(desk)
+        desk.agrees(desk.use("check"), **named(long))
+        ends(desk, number, "provide", "verify")
+    number = provided(desk)
+    desk.fill("check", board=["longest"])
+    ends(desk, number, "provide")
+    number = provided(desk)
+    desk.agrees(desk.use("check"), **named(dict(long, board=["longest"])))
+    ends(desk, number, "provide", "verify")
+    number = provided(desk)
+    desk.fill("check", board=["board"])
+    ends(desk, number, "provide")
+    desk.shown("check-board")
+    assert state(desk, ready(desk)) == [[], False], desk.run(ALL)
+    desk.agrees(desk.use("check"), **named(ACCEPTED))
+
+
 def files_are_read_in_pieces(desk):
     """The same is said where a browser can't read a file into memory that is there."""
     browser, made = desk.browser, desk.made
@@ -170,5 +208,6 @@ WORKERS = [
     the_ready_one_fails,
     nothing_is_left_of_a_call,
     a_long_digest_has_a_worker,
+    memory_is_there_before_it_is_wanted,
     files_are_read_in_pieces,
 ]
