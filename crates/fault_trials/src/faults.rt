@@ -1,9 +1,8 @@
 // A fault at each call that a command makes: at the call it is told, and the same words then do the
 // whole command.
-use crate::commands::{COMMANDS, Command};
-use crate::stops::Effect;
-use crate::world::{Outside, Ran, World};
-use std::alloc::Global;
+use crate::commands::{COMMANDS, Command, OTHER_KEPT, command_at};
+use crate::stops::Worlds;
+use crate::world::Outside;
 use vk_cases::Tried;
 use vk_io::{Shelf, Sink};
 use vk_lines::{end_line, push_decimal};
@@ -23,40 +22,58 @@ enum Fault {
 }
 
 /// Tells of each command whether each of its faults is told.
-pub fn try_faults<S: Shelf, W: Sink>(alloc: Global, shelf: &mut S, out: &mut W) -> Tried<()> {
-    for command in &COMMANDS {
-        let mut text = Vec::new(alloc);
-        push_faults(alloc, &mut text, shelf, command)?;
-        out.put(text.as_slice())?;
+pub fn try_faults<S: Shelf, W: Sink>(
+    shelf: &mut S,
+    out: &mut W,
+    worlds: &mut Worlds,
+    text: &mut Vec<u8>,
+) -> Tried<()> {
+    for place in 0..COMMANDS {
+        if let Some(command) = command_at(place) {
+            tell_faults(shelf, out, worlds, text, &command)?;
+        }
     }
+    Ok(())
+}
+
+/// Tells the same of a command.
+fn tell_faults<S: Shelf, W: Sink>(
+    shelf: &mut S,
+    out: &mut W,
+    worlds: &mut Worlds,
+    text: &mut Vec<u8>,
+    command: &Command,
+) -> Tried<()> {
+    text.clear();
+    push_faults(shelf, worlds, text, command)?;
+    out.put(text.as_slice())?;
     Ok(())
 }
 
 /// The line of the command.
 fn push_faults<S: Shelf>(
-    alloc: Global,
-    text: &mut Vec<u8>,
     shelf: &mut S,
+    worlds: &mut Worlds,
+    text: &mut Vec<u8>,
     command: &Command,
 ) -> Tried<()> {
     text.extend_from_slice(b"faults of ")?;
     text.extend_from_slice(command.name.as_bytes())?;
-    let effect = Effect::of(alloc, shelf, command)?;
-    push_told(alloc, shelf, text, command, &effect)?;
+    worlds.begin(shelf, command)?;
+    push_told(shelf, worlds, text, command)?;
     end_line(text)?;
     Ok(())
 }
 
 /// That every call's fault was told, or else the first call whose fault was not.
 fn push_told<S: Shelf>(
-    alloc: Global,
     shelf: &mut S,
+    worlds: &mut Worlds,
     text: &mut Vec<u8>,
     command: &Command,
-    effect: &Effect,
 ) -> Tried<()> {
     for outside in command.outsides {
-        if let Some(call) = first_untold(alloc, shelf, command, effect, *outside)? {
+        if let Some(call) = first_untold(shelf, worlds, command, *outside)? {
             return push_untold(text, *outside, call);
         }
     }
@@ -84,14 +101,14 @@ fn word_of(outside: Outside) -> &'static [u8] {
 /// The first call whose fault isn't told, up to the last call that the command makes. It makes one
 /// at least.
 fn first_untold<S: Shelf>(
-    alloc: Global,
     shelf: &mut S,
+    worlds: &mut Worlds,
     command: &Command,
-    effect: &Effect,
     outside: Outside,
 ) -> Tried<Option<u64>> {
     for call in 1..=MOST_CALLS {
-        match fault_at(alloc, shelf, command, effect, outside, call)? {
+        worlds.now.begin(shelf, command.given, command.before)?;
+        match fault_at(worlds, command, outside, call)? {
             Fault::Told => {}
             Fault::Unmet if 1 < call => return Ok(None),
             Fault::Unmet | Fault::Untold => return Ok(Some(call)),
@@ -100,101 +117,59 @@ fn first_untold<S: Shelf>(
     Ok(Some(MOST_CALLS))
 }
 
-/// What becomes of the command where the call of that number fails.
-fn fault_at<S: Shelf>(
-    alloc: Global,
-    shelf: &mut S,
-    command: &Command,
-    effect: &Effect,
-    outside: Outside,
-    call: u64,
-) -> Tried<Fault> {
-    let mut world = World::of(alloc, shelf, command.given, command.before)?;
-    let fault = fault_in(alloc, &mut world, command, effect, outside, call);
-    fault
-}
-
-/// The same in a world where no call has failed yet.
-fn fault_in(
-    alloc: Global,
-    world: &mut World,
-    command: &Command,
-    effect: &Effect,
-    outside: Outside,
-    call: u64,
-) -> Tried<Fault> {
-    world.fail_at(outside, call)?;
-    let first = world.run(alloc, command.words)?;
-    let (told, fault) = if first.said(0, command.whole) {
-        (is_met_next(alloc, world, command, effect)?, Fault::Unmet)
+/// What becomes of the command where the call of that number fails, in a world where no call has
+/// failed yet.
+fn fault_at(worlds: &mut Worlds, command: &Command, outside: Outside, call: u64) -> Tried<Fault> {
+    worlds.now.fail_at(outside, call)?;
+    worlds.now.run(command.line)?;
+    let (told, fault) = if worlds.now.said(0, command.whole.as_bytes()) {
+        (is_met_next(worlds, command)?, Fault::Unmet)
     } else {
-        let told = is_stopped(alloc, world, command, effect, outside, &first)?
-            && is_done_again(alloc, world, command, effect)?;
-        (told, Fault::Told)
+        (is_told(worlds, command, outside)?, Fault::Told)
     };
     Ok(if told { fault } else { Fault::Untold })
 }
 
 /// Whether the same words meet the fault at their first call, after the whole command was done.
-fn is_met_next(
-    alloc: Global,
-    world: &mut World,
-    command: &Command,
-    effect: &Effect,
-) -> Tried<bool> {
-    let second = world.run(alloc, command.words)?;
-    let kept = world.kept(alloc)?;
-    Ok(second.said(6, "") && effect.is_done(command, &world.files, kept.as_str()))
+fn is_met_next(worlds: &mut Worlds, command: &Command) -> Tried<bool> {
+    worlds.now.run(command.line)?;
+    worlds.now.look()?;
+    Ok(worlds.now.said(6, b"") && worlds.is_done(command))
 }
 
-/// Whether the command was stopped for a fault of this. Only a sink's fault comes behind printed
-/// text.
-fn is_stopped(
-    alloc: Global,
-    world: &mut World,
-    command: &Command,
-    effect: &Effect,
-    outside: Outside,
-    ran: &Ran,
-) -> Tried<bool> {
-    let kept = world.kept(alloc)?;
-    let text = ran.text.as_slice();
-    let printed = match outside {
+/// Whether the command was stopped for a fault of this, and the same words then do it whole.
+fn is_told(worlds: &mut Worlds, command: &Command, outside: Outside) -> Tried<bool> {
+    worlds.now.look()?;
+    let stopped = worlds.now.status == 6
+        && may_print(command, outside, worlds.now.text())
+        && worlds.is_stopped(command);
+    if !stopped || !is_refused_once_kept(worlds, command)? {
+        return Ok(false);
+    }
+    worlds.now.run(command.line)?;
+    worlds.now.look()?;
+    Ok(worlds.now.said(0, command.whole.as_bytes()) && worlds.is_done(command))
+}
+
+/// Whether this may have been printed where a call of that failed. Only a sink's fault comes behind
+/// printed text.
+fn may_print(command: &Command, outside: Outside, text: &[u8]) -> bool {
+    match outside {
         Outside::Shelf | Outside::Keeper => text.is_empty(),
         Outside::Sink => text.len() < command.whole.len(),
-    };
-    Ok(ran.status == 6 && printed && effect.is_stopped(command, &world.files, kept.as_str(), text))
+    }
 }
 
 /// Whether what is refused once the auction is kept as the command leaves it is refused, where it
 /// is kept so.
-fn is_refused_once_kept(
-    alloc: Global,
-    world: &mut World,
-    command: &Command,
-    effect: &Effect,
-) -> Tried<bool> {
-    let Some((words, said)) = command.refused else {
+fn is_refused_once_kept(worlds: &mut Worlds, command: &Command) -> Tried<bool> {
+    let Some(line) = command.refused else {
         return Ok(true);
     };
-    if !effect.keeps(world.kept(alloc)?.as_str()) {
+    worlds.now.look()?;
+    if !worlds.keeps() {
         return Ok(true);
     }
-    Ok(world.run(alloc, words)?.said(8, said))
-}
-
-/// Whether the same words do the whole command, and what is refused once it is kept was refused
-/// before them.
-fn is_done_again(
-    alloc: Global,
-    world: &mut World,
-    command: &Command,
-    effect: &Effect,
-) -> Tried<bool> {
-    if !is_refused_once_kept(alloc, world, command, effect)? {
-        return Ok(false);
-    }
-    let again = world.run(alloc, command.words)?;
-    let kept = world.kept(alloc)?;
-    Ok(again.said(0, command.whole) && effect.is_done(command, &world.files, kept.as_str()))
+    worlds.now.run(line)?;
+    Ok(worlds.now.said(8, OTHER_KEPT.as_bytes()))
 }

@@ -8,6 +8,7 @@ mod faults;
 mod stops;
 mod world;
 
+use crate::stops::Worlds;
 use std::alloc::Global;
 use std::process::ExitCode;
 use vk_cases::{Replay, Replayed, replay_here};
@@ -18,10 +19,22 @@ struct FaultTrials;
 
 impl Replay for FaultTrials {
     fn replay<S: Shelf, W: Sink>(&self, alloc: Global, shelf: &mut S, out: &mut W) -> Replayed {
-        cuts::try_cuts(alloc, shelf, out)?;
-        faults::try_faults(alloc, shelf, out)?;
-        Ok(())
+        let mut worlds = Worlds::new(alloc);
+        let mut text = Vec::new(alloc);
+        let tried = try_all(shelf, out, &mut worlds, &mut text);
+        tried
     }
+}
+
+/// Puts all on trial in these worlds.
+fn try_all<S: Shelf, W: Sink>(
+    shelf: &mut S,
+    out: &mut W,
+    worlds: &mut Worlds,
+    text: &mut Vec<u8>,
+) -> Replayed {
+    cuts::try_cuts(shelf, out, worlds, text)?;
+    faults::try_faults(shelf, out, worlds, text)
 }
 
 fn main(rt: HostRuntime) -> ExitCode {

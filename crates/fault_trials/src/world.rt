@@ -1,10 +1,10 @@
 // What a command works on, in memory, and what it says.
-use crate::commands::ID;
+use crate::commands::{Given, ID, Line};
 use std::alloc::Global;
 use vk_app::run;
 use vk_cases::{Tried, Unreplayed, behind, read_cases, words_of};
 use vk_io::{MemShelf, MemSink, Shelf};
-use vk_keeper::{Keeper, MemKeeper};
+use vk_keeper::{Auction, Keeper, MemKeeper};
 
 /// What is outside of a command, of which a call may fail.
 #[derive(Clone, Copy)]
@@ -14,71 +14,68 @@ pub enum Outside {
     Sink,
 }
 
-/// Files, auctions that are kept, and what was printed.
+/// Files, auctions that are kept, what was printed, and how the last command ended. It is lent to
+/// what is tried in it, and made and dropped in one place: what an error drops takes seconds to
+/// prove.
 #[derive(Drop)]
 pub struct World {
+    pub alloc: Global,
     pub files: MemShelf,
     keeper: MemKeeper,
     /// How many calls of the keeper were made by what was done before.
     turns: u64,
     out: MemSink,
-}
-
-/// The status of a run, and what it printed.
-#[derive(Drop)]
-pub struct Ran {
+    /// The status of the last command.
     pub status: u8,
-    pub text: Vec<u8>,
-}
-
-impl Ran {
-    /// Whether it ended with this status and said this.
-    pub fn said(&self, status: u8, text: &str) -> bool {
-        self.status == status && self.text.as_slice() == text.as_bytes()
-    }
+    /// How many bytes had been printed before it.
+    printed: usize,
+    /// All that was kept of the auction when it was looked at last, as text.
+    pub kept: String,
 }
 
 impl World {
-    /// These files, and a keeper after these commands of a house, each of which is done.
-    pub fn of<S: Shelf>(
-        alloc: Global,
-        shelf: &mut S,
-        given: &[&str],
-        before: &[&str],
-    ) -> Tried<World> {
-        let mut world = World {
+    /// No files, and a keeper that keeps nothing.
+    pub fn new(alloc: Global) -> World {
+        World {
+            alloc,
             files: MemShelf::new(alloc),
             keeper: MemKeeper::new(alloc),
             turns: 0,
             out: MemSink::new(alloc),
-        };
-        world.begin(alloc, shelf, given, before)?;
-        Ok(world)
-    }
-
-    /// Does these commands over the files, which stand as they were after that.
-    fn begin<S: Shelf>(
-        &mut self,
-        alloc: Global,
-        shelf: &mut S,
-        given: &[&str],
-        before: &[&str],
-    ) -> Tried<()> {
-        put_given(alloc, shelf, &mut self.files, given)?;
-        for line in before {
-            self.do_before(alloc, line)?;
+            status: 0,
+            printed: 0,
+            kept: String::new(alloc),
         }
-        self.files = MemShelf::new(alloc);
-        self.out = MemSink::new(alloc);
-        put_given(alloc, shelf, &mut self.files, given)
     }
 
-    /// Does a command of a house, which gets an auction once and puts it once.
-    fn do_before(&mut self, alloc: Global, line: &str) -> Tried<()> {
-        let ran = self.run(alloc, line)?;
-        self.turns = self.turns.saturating_add(2);
-        if ran.status != 0 {
-            return Err(Unreplayed::NoCase);
+    /// Has these files, and a keeper after these commands of a house, each of which is done over
+    /// the files, which stand as they were after that.
+    pub fn begin<S: Shelf>(&mut self, shelf: &mut S, given: Given, before: &[Line]) -> Tried<()> {
+        self.keeper = MemKeeper::new(self.alloc);
+        self.turns = 0;
+        self.take(shelf, given)?;
+        self.do_each(before)?;
+        self.take(shelf, given)
+    }
+
+    /// Has the files of these names, and nothing printed.
+    fn take<S: Shelf>(&mut self, shelf: &mut S, given: Given) -> Tried<()> {
+        self.files = MemShelf::new(self.alloc);
+        self.out = MemSink::new(self.alloc);
+        for name in given.names() {
+            put_given(self.alloc, shelf, &mut self.files, name)?;
+        }
+        Ok(())
+    }
+
+    /// Does commands of a house, each of which gets an auction once and puts it once.
+    fn do_each(&mut self, before: &[Line]) -> Tried<()> {
+        for line in before {
+            self.run(*line)?;
+            self.turns = self.turns.saturating_add(2);
+            if self.status != 0 {
+                return Err(Unreplayed::NoCase);
+            }
         }
         Ok(())
     }
@@ -94,44 +91,52 @@ impl World {
     }
 
     /// Runs the command, which prints behind what was printed before.
-    pub fn run(&mut self, alloc: Global, line: &str) -> Tried<Ran> {
-        let before = self.out.bytes().len();
-        let status = self.status_of(alloc, line)?;
-        let text = Vec::from_slice(alloc, behind(self.out.bytes(), before))?;
-        Ok(Ran { status, text })
-    }
-
-    /// Runs the command.
-    fn status_of(&mut self, alloc: Global, line: &str) -> Tried<u8> {
-        let words = words_of(alloc, line.as_bytes())?;
-        let status = run(
-            alloc,
+    pub fn run(&mut self, line: Line) -> Tried<()> {
+        self.printed = self.out.bytes().len();
+        let words = words_of(self.alloc, line.words().as_bytes())?;
+        self.status = run(
+            self.alloc,
             words.as_slice(),
             &mut self.files,
             &mut self.keeper,
             &mut self.out,
         );
-        Ok(status)
+        Ok(())
     }
 
-    /// All that is kept of the auction, as text.
-    pub fn kept(&mut self, alloc: Global) -> Tried<String> {
+    /// What the last command printed.
+    pub fn text(&self) -> &[u8] {
+        behind(self.out.bytes(), self.printed)
+    }
+
+    /// Whether the last command ended with this status and said this.
+    pub fn said(&self, status: u8, text: &[u8]) -> bool {
+        self.status == status && self.text() == text
+    }
+
+    /// Looks at all that is kept of the auction.
+    pub fn look(&mut self) -> Tried<()> {
         let auction = self.keeper.get(&ID)?;
-        let text = format!(in alloc; "{auction:?}")?;
-        Ok(text)
+        let looked = self.note(&auction);
+        looked
+    }
+
+    /// Notes what is kept.
+    fn note(&mut self, auction: &Option<Auction>) -> Tried<()> {
+        let alloc = self.alloc;
+        self.kept = format!(in alloc; "{auction:?}")?;
+        Ok(())
     }
 }
 
-/// Puts the files of these names into memory.
+/// Puts the file of that name into memory.
 fn put_given<S: Shelf>(
     alloc: Global,
     shelf: &mut S,
     files: &mut MemShelf,
-    given: &[&str],
+    name: &str,
 ) -> Tried<()> {
-    for name in given {
-        let bytes = read_cases(alloc, shelf, name)?;
-        files.put_file(name, bytes.as_slice())?;
-    }
+    let bytes = read_cases(alloc, shelf, name)?;
+    files.put_file(name, bytes.as_slice())?;
     Ok(())
 }
