@@ -1,7 +1,7 @@
 // How many of each were tried.
+use crate::text::Text;
 use std::alloc::Global;
 use vk_cases::Tried;
-use vk_lines::{end_line, push_decimal, push_space};
 
 /// How many of a name.
 #[derive(Drop)]
@@ -48,19 +48,9 @@ impl Counts {
     }
 
     /// A line for each: the name, and how many there are.
-    pub fn push(&self, text: &mut Vec<u8>) -> Tried<()> {
+    pub fn push(&self, text: &mut Text) {
         for count in &self.counts {
-            push_count(text, count.name.as_slice(), count.number)?;
+            text.count(count.name.as_slice(), count.number);
         }
-        Ok(())
     }
-}
-
-/// A line of a name and a number.
-pub fn push_count(text: &mut Vec<u8>, name: &[u8], number: u64) -> Tried<()> {
-    text.extend_from_slice(name)?;
-    push_space(text)?;
-    push_decimal(text, number)?;
-    end_line(text)?;
-    Ok(())
 }

@@ -10,6 +10,7 @@ mod numbers;
 mod parts;
 mod stage;
 mod steps;
+mod text;
 mod texts;
 mod watched;
 
@@ -28,17 +29,24 @@ impl Replay for SizeTrials {
         let steps = read_cases(alloc, folder, "steps")?;
         let parts = read_cases(alloc, folder, "parts")?;
         let mut stage = Stage::new(alloc);
-        let taken = take_all(&mut stage, steps.as_slice(), parts.as_slice());
-        out.put(stage.told.as_slice())?;
+        let taken = tell_all(&mut stage, out, steps.as_slice(), parts.as_slice());
         taken
     }
+}
+
+/// Takes all steps, and prints what is told of them.
+fn tell_all<W: Sink>(stage: &mut Stage, out: &mut W, steps: &[u8], parts: &[u8]) -> Tried<()> {
+    let taken = take_all(stage, steps, parts);
+    stage.told.put(out)?;
+    taken
 }
 
 /// Takes all steps, which find the file `parts`, and tells how many of each were tried.
 fn take_all(stage: &mut Stage, steps: &[u8], parts: &[u8]) -> Tried<()> {
     stage.files.put(b"parts", parts)?;
     take_blocks(stage, steps)?;
-    stage.sum_up()
+    stage.sum_up();
+    Ok(())
 }
 
 fn main(rt: HostRuntime) -> ExitCode {

@@ -1,8 +1,7 @@
 // Parts of texts.
-use std::alloc::Global;
+use crate::text::Text;
 use std::str::from_utf8;
 use vk_cases::{Tried, Unreplayed, behind};
-use vk_residue::NoMemory;
 
 /// What stands before the first of these bytes, and what stands behind it: nothing where it has
 /// none.
@@ -52,17 +51,11 @@ pub fn lines_between(file: &[u8], from: u64, to: u64) -> &[u8] {
     before(front, front.len().saturating_sub(rest.len()))
 }
 
-/// The file with this text in place of the line of that number, from 1.
-pub fn with_line(
-    alloc: Global,
-    file: &[u8],
-    number: u64,
-    text: &[u8],
-) -> Result<Vec<u8>, NoMemory> {
-    let mut changed = Vec::from_slice(alloc, lines_between(file, 1, number.saturating_sub(1)))?;
-    changed.extend_from_slice(text)?;
-    changed.extend_from_slice(from_line(file, number.saturating_add(1)))?;
-    Ok(changed)
+/// Appends the file with this text in place of the line of that number, from 1.
+pub fn push_with_line(changed: &mut Text, file: &[u8], number: u64, text: &[u8]) {
+    changed.word(lines_between(file, 1, number.saturating_sub(1)));
+    changed.word(text);
+    changed.word(from_line(file, number.saturating_add(1)));
 }
 
 /// The bytes as a name.

@@ -1,14 +1,14 @@
 // What the steps work on.
-use crate::counts::{Counts, push_count};
+use crate::counts::Counts;
 use crate::numbers::Numbers;
-use crate::parts::{cut, lines_between, with_line};
+use crate::parts::{cut, lines_between, push_with_line};
+use crate::text::Text;
 use crate::watched::{WatchedFiles, WatchedSink};
 use std::alloc::Global;
 use vk_app::run;
 use vk_cases::{Tried, words_of};
 use vk_io::MemSink;
 use vk_keeper::MemKeeper;
-use vk_lines::{end_line, push_decimal, push_line, push_space};
 
 /// The most bytes that are told of what came otherwise.
 const MOST_TOLD: usize = 1 << 20;
@@ -28,15 +28,17 @@ pub struct Stage {
     pub files: WatchedFiles,
     pub keeper: MemKeeper,
     /// The text that is made.
-    pub text: Vec<u8>,
+    pub text: Text,
     /// What the last command printed.
     pub printed: Vec<u8>,
     pub counts: Counts,
     /// What came otherwise than it has to.
-    pub told: Vec<u8>,
+    pub told: Text,
     /// How often something was put that isn't one line.
     torn: u64,
     replaced: Vec<Replaced>,
+    /// The file that is changed, or the name of what is counted.
+    scratch: Text,
 }
 
 impl Stage {
@@ -47,12 +49,13 @@ impl Stage {
             numbers: Numbers::new(),
             files: WatchedFiles::new(alloc),
             keeper: MemKeeper::new(alloc),
-            text: Vec::new(alloc),
+            text: Text::new(alloc),
             printed: Vec::new(alloc),
             counts: Counts::new(alloc),
-            told: Vec::new(alloc),
+            told: Text::new(alloc),
             torn: 0,
             replaced: Vec::new(alloc),
+            scratch: Text::new(alloc),
         }
     }
 
@@ -63,7 +66,7 @@ impl Stage {
 
     /// Makes the named file hold the text, and begins another one.
     pub fn save(&mut self, name: &[u8]) -> Tried<()> {
-        self.files.put(name, self.text.as_slice())?;
+        self.files.put(name, self.text.bytes()?)?;
         self.text.clear();
         Ok(())
     }
@@ -71,7 +74,7 @@ impl Stage {
     /// Appends these lines of the named file to the text, counted from 1.
     pub fn copy(&mut self, name: &[u8], from: u64, to: u64) -> Tried<()> {
         let lines = lines_between(self.files.file(name)?, from, to);
-        self.text.extend_from_slice(lines)?;
+        self.text.word(lines);
         Ok(())
     }
 
@@ -79,10 +82,10 @@ impl Stage {
     /// is over.
     pub fn change(&mut self, name: &[u8], number: u64) -> Tried<()> {
         let file = self.files.file(name)?;
-        let changed = with_line(self.alloc, file, number, self.text.as_slice())?;
-        let replaced = as_it_is(self.alloc, name, file)?;
-        self.replaced.push(replaced)?;
-        self.files.put(name, changed.as_slice())?;
+        self.replaced.push(as_it_is(self.alloc, name, file)?)?;
+        self.scratch.clear();
+        push_with_line(&mut self.scratch, file, number, self.text.bytes()?);
+        self.files.put(name, self.scratch.bytes()?)?;
         self.text.clear();
         Ok(())
     }
@@ -119,28 +122,29 @@ impl Stage {
 
     /// Counts a command that ended so.
     fn count(&mut self, command: &[u8], status: u64) -> Tried<()> {
-        let mut name = Vec::from_slice(self.alloc, b"runs of ")?;
         let (word, _words) = cut(command, b' ');
-        name.extend_from_slice(word)?;
-        name.extend_from_slice(b" to status ")?;
-        push_decimal(&mut name, status)?;
-        self.counts.add(name.as_slice())
+        self.scratch.clear();
+        self.scratch.word(b"runs of ");
+        self.scratch.word(word);
+        self.scratch.word(b" to status ");
+        self.scratch.number(status);
+        self.counts.add(self.scratch.bytes()?)
     }
 
     /// Tells of a command that ended with another status, or printed another text, than it has to,
     /// and begins another text.
     pub fn judge(&mut self, step: &[u8], wanted: u64, status: u64) -> Tried<()> {
         if status != wanted {
-            push_decimal(&mut self.told, status)?;
-            push_space(&mut self.told)?;
-            push_line(&mut self.told, step)?;
+            self.told.number(status);
+            self.told.word(b" ");
+            self.told.line(step);
         }
         compare(
             &mut self.told,
             step,
             self.printed.as_slice(),
-            self.text.as_slice(),
-        )?;
+            self.text.bytes()?,
+        );
         self.text.clear();
         Ok(())
     }
@@ -148,25 +152,18 @@ impl Stage {
     /// Tells of a file that holds another text than it has to, and begins another text.
     pub fn holds(&mut self, step: &[u8], name: &[u8]) -> Tried<()> {
         let held = self.files.file(name)?;
-        compare(&mut self.told, step, held, self.text.as_slice())?;
+        compare(&mut self.told, step, held, self.text.bytes()?);
         self.text.clear();
         Ok(())
     }
 
     /// Tells how many of each were tried.
-    pub fn sum_up(&mut self) -> Tried<()> {
-        self.counts.push(&mut self.told)?;
-        push_count(
-            &mut self.told,
-            b"names looked at that the words don't have",
-            self.files.strange,
-        )?;
-        push_count(
-            &mut self.told,
-            b"pieces printed that aren't one line",
-            self.torn,
-        )?;
-        Ok(())
+    pub fn sum_up(&mut self) {
+        self.counts.push(&mut self.told);
+        let strange = b"names looked at that the words don't have";
+        self.told.count(strange, self.files.strange);
+        let torn = b"pieces printed that aren't one line";
+        self.told.count(torn, self.torn);
     }
 }
 
@@ -178,23 +175,26 @@ fn as_it_is(alloc: Global, name: &[u8], file: &[u8]) -> Tried<Replaced> {
 }
 
 /// Tells that a step came to this, where it isn't that.
-fn compare(told: &mut Vec<u8>, step: &[u8], came: &[u8], wanted: &[u8]) -> Tried<()> {
+fn compare(told: &mut Text, step: &[u8], came: &[u8], wanted: &[u8]) {
     if came == wanted || MOST_TOLD < told.len() {
-        return Ok(());
+        return;
     }
-    push_line(told, step)?;
-    told.extend_from_slice(b"came to:\n")?;
-    told.extend_from_slice(came)?;
-    told.extend_from_slice(b"and not to:\n")?;
-    told.extend_from_slice(wanted)?;
-    end_line(told)?;
-    Ok(())
+    told.line(step);
+    told.word(b"came to:\n");
+    told.word(came);
+    told.word(b"and not to:\n");
+    told.line(wanted);
 }
 
 /// Has each file as it was before its first change.
 fn put_back(files: &mut WatchedFiles, replaced: &[Replaced]) -> Tried<()> {
-    for file in replaced.iter().rev() {
+    let mut rest = replaced;
+    for _ in 0..replaced.len() {
+        let Some((file, before)) = rest.split_last() else {
+            return Ok(());
+        };
         files.put(file.name.as_slice(), file.bytes.as_slice())?;
+        rest = before;
     }
     Ok(())
 }

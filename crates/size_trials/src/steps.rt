@@ -2,12 +2,13 @@
 use crate::digests::{push_commitment, push_derived, push_digests};
 use crate::parts::{cut, name_of};
 use crate::stage::Stage;
-use crate::texts::filled;
+use crate::text::Text;
+use crate::texts::{push_fields, push_numbered};
 use vk_cases::{Tried, Unreplayed, behind, number_at, word_at};
-use vk_lines::{push_line, push_space};
 
 /// Takes a step that stands behind no loop. Before it may stand `?EXPRESSION`: then it is taken
-/// where that isn't 0. Each but `set` has its places filled, as `filled` does it.
+/// where that isn't 0. Each but `set` has its places filled, first with numbers and then
+/// with fields.
 ///
 /// - `set LETTER EXPRESSION`: a number.
 /// - `add TEXT`, `line TEXT`, `space`: to the text that is made.
@@ -42,9 +43,17 @@ fn take_due(stage: &mut Stage, step: &[u8]) -> Tried<()> {
     if word_at(step, 0)? == b"set".as_slice() {
         return set(stage, step);
     }
-    let made = filled(stage.alloc, &stage.numbers, &stage.files, step)?;
-    let taken = take_filled(stage, made.as_slice());
+    let mut numbered = Text::new(stage.alloc);
+    let mut made = Text::new(stage.alloc);
+    let taken = take_made(stage, step, &mut numbered, &mut made);
     taken
+}
+
+/// Takes a step whose places are filled there: what an error drops takes seconds to prove.
+fn take_made(stage: &mut Stage, step: &[u8], numbered: &mut Text, made: &mut Text) -> Tried<()> {
+    push_numbered(numbered, &stage.numbers, step)?;
+    push_fields(made, &stage.files, numbered.bytes()?)?;
+    take_filled(stage, made.bytes()?)
 }
 
 /// Has a number for a letter.
@@ -59,9 +68,9 @@ fn take_filled(stage: &mut Stage, step: &[u8]) -> Tried<()> {
     let (word, rest) = cut(step, b' ');
     match name_of(word)? {
         "run" => return run_step(stage, rest),
-        "add" => stage.text.extend_from_slice(rest)?,
-        "line" => push_line(&mut stage.text, rest)?,
-        "space" => push_space(&mut stage.text)?,
+        "add" => stage.text.word(rest),
+        "line" => stage.text.line(rest),
+        "space" => stage.text.word(b" "),
         "tried" => stage.counts.add(rest)?,
         "forget" => stage.forget(),
         "names" => stage.files.name(rest)?,
@@ -105,7 +114,7 @@ fn run_step(stage: &mut Stage, rest: &[u8]) -> Tried<()> {
     let wanted = number_at(rest, 0, 9)?;
     let (command, line) = cut(behind(rest, 2), b'|');
     if !line.is_empty() {
-        push_line(&mut stage.text, behind(line, 1))?;
+        stage.text.line(behind(line, 1));
     }
     begin(stage, command)?;
     let status = stage.run(command)?;
