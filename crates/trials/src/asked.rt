@@ -10,6 +10,9 @@ pub enum Asked {
     Last,
 }
 
+/// All that is asked for.
+pub const ALL: [Asked; 3] = [Asked::Zeros, Asked::Ones, Asked::Last];
+
 impl Asked {
     /// The name of the challenge's file.
     pub fn name(self) -> &'static str {
@@ -30,7 +33,7 @@ impl Asked {
     }
 
     /// The bit of a lane, from 1.
-    pub fn bit(self, lane: u32, lanes: u32) -> bool {
+    pub fn bit(self, lane: u16, lanes: u16) -> bool {
         match self {
             Asked::Zeros => false,
             Asked::Ones => true,

@@ -4,15 +4,14 @@ ghost use Rattle.vk_plan.specs.Plans.{Holds};
 ghost use Rattle.vk_matching.specs.MatchingPlans.{IsMatchingClaim};
 
 use crate::asked::Asked;
-use crate::auctions::{
-    push_count, push_lengths, push_run, push_same, push_values, without_openings, words_with,
-};
-use crate::honest::{Honest, ID, Terms, plan_and_values, residues};
+use crate::bench::{Bench, Sizes, push_same, push_values, push_without_openings};
+use crate::honest::{ID, Sealing, Terms, plan_and_values, residues, write_files};
 use crate::proposals::{drawn_ranks, rank_words};
+use crate::text::Text;
 use std::alloc::Global;
 use vk_cases::{Tried, Unreplayed};
 use vk_claim::{ClaimHead, Kind, claim_head_text};
-use vk_io::{MemShelf, PieceShelf, Sink};
+use vk_io::{PieceShelf, Sink};
 use vk_matching::{MatchingPlan, propose};
 use vk_plan::Plan;
 use vk_residue::{NoMemory, Residue};
@@ -44,127 +43,172 @@ const CLAIMS: [Couples; 2] = [
 
 /// Makes each claim, and tells what its files come to.
 pub fn try_claims<W: Sink>(alloc: Global, out: &mut W) -> Tried<()> {
+    let mut text = Text::new(alloc);
+    let tried = tell_claims(alloc, out, &mut text);
+    tried
+}
+
+fn tell_claims<W: Sink>(alloc: Global, out: &mut W, text: &mut Text) -> Tried<()> {
     for couples in &CLAIMS {
-        let text = claim_text(alloc, *couples)?;
-        out.put(text.as_slice())?;
+        text.clear();
+        push_claim(alloc, text, *couples)?;
+        text.put(out)?;
     }
     Ok(())
 }
 
 /// How large the files of a claim are, and what the program says of them.
-fn claim_text(alloc: Global, couples: Couples) -> Tried<Vec<u8>> {
+fn push_claim(alloc: Global, text: &mut Text, couples: Couples) -> Tried<()> {
     let mut words = rank_words(1);
     let ranks = drawn_ranks(alloc, couples.size, couples.width, &mut words)?;
-    let honest = honest_claim(alloc, couples, ranks.as_slice())?;
-    let mut text = Vec::new(alloc);
-    push_claim(alloc, &mut text, couples, ranks.as_slice(), &honest)?;
-    Ok(text)
+    let pushed = push_ranked(alloc, text, couples, ranks.as_slice());
+    pushed
 }
 
-/// The same of a claim that is made.
-fn push_claim(
-    alloc: Global,
-    text: &mut Vec<u8>,
-    couples: Couples,
-    ranks: &[u64],
-    honest: &Honest,
-) -> Tried<()> {
-    let mut shelf = PieceShelf::over(MemShelf::new(alloc));
-    let pushed = push_files(alloc, text, &mut shelf, couples, ranks, honest);
+/// The same of these ranks.
+fn push_ranked(alloc: Global, text: &mut Text, couples: Couples, ranks: &[u64]) -> Tried<()> {
+    let mut bench = Bench::new(alloc);
+    let pushed = push_tried(&mut bench, text, couples, ranks);
     pushed
 }
 
 /// Writes the claim's files, and tells how large they are and what the program says of them.
-fn push_files(
-    alloc: Global,
-    text: &mut Vec<u8>,
-    shelf: &mut PieceShelf,
-    couples: Couples,
-    ranks: &[u64],
-    honest: &Honest,
-) -> Tried<()> {
-    honest.write(alloc, shelf)?;
-    push_sizes(text, couples, honest, shelf.inner())?;
-    for asked in [Asked::Zeros, Asked::Ones] {
-        let line = words_with(alloc, "claim-verify board", asked)?;
-        let out = push_run(alloc, text, shelf, line.as_bytes())?;
-        text.extend_from_slice(out.bytes())?;
-    }
-    let line = words_with(alloc, "claim-extract board zeros reply-zeros", Asked::Ones)?;
-    let out = push_run(alloc, text, shelf, line.as_bytes())?;
-    push_extracted(alloc, text, couples, ranks, out.bytes())
+fn push_tried(bench: &mut Bench, text: &mut Text, couples: Couples, ranks: &[u64]) -> Tried<()> {
+    let sizes = write_claim(bench.alloc, &mut bench.shelf, couples, ranks)?;
+    push_counts(text, couples);
+    bench.push_lengths(text, sizes);
+    bench.run_asked(text, b"claim-verify board", Asked::Zeros)?;
+    text.word(bench.said());
+    bench.run_asked(text, b"claim-verify board", Asked::Ones)?;
+    text.word(bench.said());
+    bench.run_asked(text, b"claim-extract board zeros reply-zeros", Asked::Ones)?;
+    push_extracted(bench, text, couples, ranks)
 }
 
-/// The counts of the claim, of its wires and rows in a lane, and of the lines of its files.
-fn push_sizes(
-    text: &mut Vec<u8>,
-    couples: Couples,
-    honest: &Honest,
-    files: &MemShelf,
-) -> Tried<()> {
-    text.extend_from_slice(b"claim")?;
-    push_count(text, b"couples", u64::from(couples.size))?;
-    push_count(text, b"width", u64::from(couples.width))?;
-    push_count(text, b"lanes", u64::from(couples.lanes))?;
-    push_lengths(text, honest, files)
+/// The counts of the claim.
+fn push_counts(text: &mut Text, couples: Couples) {
+    text.word(b"claim");
+    text.count(b"couples", u64::from(couples.size));
+    text.count(b"width", u64::from(couples.width));
+    text.count(b"lanes", u64::from(couples.lanes));
 }
 
 /// What an extraction says without its openings; or, where this is as it has to be, that the ranks
 /// are as given.
-fn push_extracted(
-    alloc: Global,
-    text: &mut Vec<u8>,
+fn push_extracted(bench: &Bench, text: &mut Text, couples: Couples, ranks: &[u64]) -> Tried<()> {
+    let mut said = Text::new(bench.alloc);
+    let mut wanted = Text::new(bench.alloc);
+    let pushed = push_bare(text, &mut said, &mut wanted, couples, ranks, bench.said());
+    pushed
+}
+
+/// The same of what it printed.
+fn push_bare(
+    text: &mut Text,
+    said: &mut Text,
+    wanted: &mut Text,
     couples: Couples,
     ranks: &[u64],
     printed: &[u8],
 ) -> Tried<()> {
-    let said = without_openings(alloc, printed)?;
-    if said.as_slice() == expected(alloc, couples, ranks)?.as_slice() {
-        text.extend_from_slice(b"ranks as given\nall seats same\n")?;
+    push_without_openings(said, printed);
+    push_expected(wanted, couples, ranks);
+    let (said, wanted) = (said.bytes()?, wanted.bytes()?);
+    if said == wanted {
+        text.word(b"ranks as given\nall seats same\n");
     } else {
-        text.extend_from_slice(said.as_slice())?;
+        text.word(said);
     }
     Ok(())
 }
 
 /// What an extraction without its openings has to be: the ranks of each lane, and that those of
 /// each seat are the same.
-fn expected(alloc: Global, couples: Couples, ranks: &[u64]) -> Tried<Vec<u8>> {
-    let mut text = Vec::new(alloc);
+fn push_expected(text: &mut Text, couples: Couples, ranks: &[u64]) {
     for lane in 1..=couples.lanes {
-        push_values(alloc, &mut text, lane, "value", ranks)?;
+        push_values(text, lane, b"value", ranks);
     }
-    text.extend_from_slice(b"kind matching\n")?;
-    push_same(alloc, &mut text, ranks)?;
-    text.extend_from_slice(b"end\n")?;
-    Ok(text)
+    text.word(b"kind matching\n");
+    push_same(text, ranks);
+    text.word(b"end\n");
 }
 
-/// The claim that what is proposed of these ranks is stable, where they are of the width.
-fn honest_claim(alloc: Global, couples: Couples, ranks: &[u64]) -> Tried<Honest> {
-    let Couples { size, width, lanes } = couples;
+/// Writes the claim that what is proposed of these ranks is stable, where they are of the width.
+fn write_claim(
+    alloc: Global,
+    shelf: &mut PieceShelf,
+    couples: Couples,
+    ranks: &[u64],
+) -> Tried<Sizes> {
+    let Couples { size, width, .. } = couples;
     if size == 0 || 16 < size || ranks.len() != (2 * size * size) as usize || 16 < width {
         return Err(Unreplayed::NoCase);
     }
     let inputs = residues(alloc, ranks, width)?.ok_or(Unreplayed::NoCase)?;
-    let numbers = numbers_of(alloc, size, width, ranks)?;
-    let (plan, values) = plan_of_claim(alloc, inputs.as_slice(), numbers.as_slice())?;
+    let written = write_proposed(alloc, shelf, couples, ranks, inputs.as_slice());
+    written
+}
+
+/// The same with the ranks as residues.
+fn write_proposed(
+    alloc: Global,
+    shelf: &mut PieceShelf,
+    couples: Couples,
+    ranks: &[u64],
+    inputs: &[Residue],
+) -> Tried<Sizes>
+    requires some { 1 ≤ couples.size }
+    requires few { couples.size ≤ 16 }
+    requires all_ranks { length ranks.now ≡ 2 * couples.size * couples.size }
+    requires within { All (λ rank. rank < 2 ^ couples.width) ranks.now }
+    requires same { inputs.now ≡ ranks.now }
+{
+    let numbers = numbers_of(alloc, couples.size, couples.width, ranks)?;
+    let (plan, values) = plan_of_claim(alloc, inputs, numbers.as_slice())?;
     let head = ClaimHead {
         auction: ID,
         kind: Kind::Matching,
-        lanes: u32::from(lanes),
+        lanes: u32::from(couples.lanes),
         inputs: plan.inputs(),
         numbers: Seq::from_vec(numbers),
     };
-    let mut honest = Honest::behind(alloc, claim_head_text(alloc, &head)?, &plan);
-    let terms = Terms {
-        version: 1,
-        width,
-        lanes,
-        reserve: 0,
+    let written = write_headed(
+        alloc,
+        shelf,
+        couples,
+        ranks,
+        &head,
+        &plan,
+        values.as_slice(),
+    );
+    written
+}
+
+/// Writes it behind that head. The values hold for the plan.
+fn write_headed(
+    alloc: Global,
+    shelf: &mut PieceShelf,
+    couples: Couples,
+    ranks: &[u64],
+    head: &ClaimHead,
+    plan: &Plan,
+    values: &[Residue],
+) -> Tried<Sizes>
+    requires { Holds plan.now values.now }
+{
+    let text = claim_head_text(alloc, head)?;
+    let sealing = Sealing {
+        front: text.as_slice(),
+        bids: ranks,
+        terms: Terms {
+            version: 1,
+            width: couples.width,
+            lanes: couples.lanes,
+            reserve: 0,
+        },
     };
-    honest.fill(alloc, ranks, terms, &plan, values.as_slice())?;
-    Ok(honest)
+    let written = write_files(alloc, shelf, &sealing, plan, values);
+    written
 }
 
 /// The width, and behind it what is proposed of the ranks, which are of that width.

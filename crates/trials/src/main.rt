@@ -5,12 +5,14 @@
 
 mod asked;
 mod auctions;
+mod bench;
 mod claims;
 mod honest;
+mod parts;
 mod proposals;
 mod samples;
 mod sayings;
-mod written;
+mod text;
 
 use std::alloc::Global;
 use std::process::ExitCode;

@@ -1,13 +1,13 @@
 // Matchings that are proposed of ranks, against what it is to be blocked by a pair.
 
-use crate::auctions::push_count;
 use crate::honest::ID;
+use crate::text::Text;
 use std::alloc::Global;
 use vk_cases::{Tried, Unreplayed};
 use vk_dice::{ChaChaWords, Words};
 use vk_io::Sink;
-use vk_lines::end_line;
 use vk_matching::propose;
+use vk_residue::NoMemory;
 
 /// From this seed come the ranks that are drawn.
 const RANKS: [u8; 32] = [0x16; 32];
@@ -15,44 +15,47 @@ const RANKS: [u8; 32] = [0x16; 32];
 /// How many tables of eight ranks below 3 there are.
 const TABLES: u64 = 6561;
 
-/// Tells how many of the matchings that are proposed a pair blocks.
+/// Tells how many matchings that are proposed a pair blocks: of all ranks of two men and two women
+/// that are below 3, and of some of three and of sixteen, among which there are many ties.
 pub fn try_proposals<W: Sink>(alloc: Global, out: &mut W) -> Tried<()> {
-    let text = proposals_text(alloc)?;
-    out.put(text.as_slice())?;
-    Ok(())
+    let mut text = Text::new(alloc);
+    let told = tell_proposals(alloc, out, &mut text);
+    told
 }
 
-/// How many matchings that are proposed a pair blocks: of all ranks of two men and two women that
-/// are below 3, and of some of three and of sixteen, among which there are many ties.
-fn proposals_text(alloc: Global) -> Tried<Vec<u8>> {
-    let mut text = Vec::new(alloc);
-    text.extend_from_slice(b"proposed")?;
-    push_blocked(&mut text, blocked_of_all(alloc)?, TABLES)?;
-    push_blocked(&mut text, blocked_of_drawn(alloc, 3, 1000)?, 1000)?;
-    push_blocked(&mut text, blocked_of_drawn(alloc, 16, 20)?, 20)?;
-    end_line(&mut text)?;
-    Ok(text)
+fn tell_proposals<W: Sink>(alloc: Global, out: &mut W, text: &mut Text) -> Tried<()> {
+    text.word(b"proposed");
+    push_blocked(text, blocked_of_all(alloc)?, TABLES);
+    push_blocked(text, blocked_of_drawn(alloc, 3, 1000)?, 1000);
+    push_blocked(text, blocked_of_drawn(alloc, 16, 20)?, 20);
+    text.word(b"\n");
+    text.put(out)
 }
 
 /// How many are blocked, and of how many.
-fn push_blocked(text: &mut Vec<u8>, blocked: u64, all: u64) -> Tried<()> {
-    push_count(text, b"blocked", blocked)?;
-    push_count(text, b"of", all)?;
-    Ok(())
+fn push_blocked(text: &mut Text, blocked: u64, all: u64) {
+    text.count(b"blocked", blocked);
+    text.count(b"of", all);
 }
 
-/// The same of all ranks of two men and two women that are below 3.
+/// How many matchings a pair blocks of all ranks of two men and two women that are below 3.
 fn blocked_of_all(alloc: Global) -> Tried<u64> {
     let mut blocked = 0u64;
     for number in 0..TABLES {
-        let ranks = digits(alloc, number)?;
-        blocked = blocked.saturating_add(blocked_count(alloc, 2, ranks.as_slice())?);
+        blocked = blocked.saturating_add(blocked_of_table(alloc, number)?);
     }
     Ok(blocked)
 }
 
+/// The same of the table of that number.
+fn blocked_of_table(alloc: Global, number: u64) -> Tried<u64> {
+    let ranks = digits(alloc, number)?;
+    let blocked = blocked_count(alloc, 2, ranks.as_slice());
+    blocked
+}
+
 /// The eight digits of a number to the base of three, the last first.
-fn digits(alloc: Global, number: u64) -> Tried<Vec<u64>> {
+fn digits(alloc: Global, number: u64) -> Result<Vec<u64>, NoMemory> {
     let mut rest = number;
     let mut digits = Vec::new(alloc);
     for _digit in 0..8 {
@@ -67,10 +70,16 @@ fn blocked_of_drawn(alloc: Global, size: u32, times: u64) -> Tried<u64> {
     let mut words = rank_words(0);
     let mut blocked = 0u64;
     for _time in 0..times {
-        let ranks = drawn_ranks(alloc, size, 3, &mut words)?;
-        blocked = blocked.saturating_add(blocked_count(alloc, size, ranks.as_slice())?);
+        blocked = blocked.saturating_add(blocked_of_next(alloc, size, &mut words)?);
     }
     Ok(blocked)
+}
+
+/// The same of those that are drawn next.
+fn blocked_of_next(alloc: Global, size: u32, words: &mut ChaChaWords) -> Tried<u64> {
+    let ranks = drawn_ranks(alloc, size, 3, words)?;
+    let blocked = blocked_count(alloc, size, ranks.as_slice());
+    blocked
 }
 
 /// The words from which ranks are drawn, by a number.
@@ -99,12 +108,17 @@ fn blocked_count(alloc: Global, size: u32, ranks: &[u64]) -> Tried<u64> {
         return Err(Unreplayed::NoCase);
     }
     let matching = propose(alloc, size, ranks)?;
+    Ok(u64::from(!are_content(size, ranks, matching.as_slice())))
+}
+
+/// Whether each man has a woman of his own, and blocks with none.
+fn are_content(size: u32, ranks: &[u64], matching: &[u32]) -> bool {
     for man in 1..=size {
-        if !is_content(size, ranks, matching.as_slice(), man) {
-            return Ok(1);
+        if !is_content(size, ranks, matching, man) {
+            return false;
         }
     }
-    Ok(0)
+    true
 }
 
 /// Whether a man has a woman of his own, and blocks with none.
@@ -127,7 +141,9 @@ fn is_content(size: u32, ranks: &[u64], matching: &[u32], man: u32) -> bool {
 /// The man of a woman, from 1. None where she has no man, or more than one.
 fn husband_of(matching: &[u32], woman: u32) -> Option<u32> {
     let mut husband = None;
-    for (wife, man) in matching.iter().zip(1u32..=16) {
+    let mut man = 0u32;
+    for wife in matching {
+        man = man.saturating_add(1);
         if *wife == woman {
             if husband.is_some() {
                 return None;

@@ -1,10 +1,11 @@
 // `sample 1` and `claim-sample` over files that stay as they are: what is said of the replies is
 // what is read, and not what was written.
-use crate::auctions::{push_run, status_of};
+use crate::bench::{push_status, status_of};
+use crate::parts::{cut, name_of};
+use crate::text::Text;
 use std::alloc::Global;
-use vk_cases::{Tried, Unreplayed, WatchedShelf, behind, read_cases, text_of, word_at};
+use vk_cases::{Tried, Unreplayed, WatchedShelf, behind, read_cases};
 use vk_io::{MemShelf, MemSink, Shelf, Sink};
-use vk_lines::{end_line, push_decimal, push_line};
 
 const LINE: &[u8] = b"sample 1";
 
@@ -12,7 +13,7 @@ const LINE: &[u8] = b"sample 1";
 const SPOILED: &str = "sample-reply-2";
 
 /// The files of a sample, in the order in which a case has what they hold.
-const NAMES: [&str; 5] = [
+const NAMES: &[&str] = &[
     "sample-board",
     "sample-challenge-1",
     "sample-reply-1",
@@ -21,7 +22,7 @@ const NAMES: [&str; 5] = [
 ];
 
 /// Those of a sample's claim.
-const CLAIM_NAMES: [&str; 5] = [
+const CLAIM_NAMES: &[&str] = &[
     "claim-board",
     "claim-challenge-1",
     "claim-reply-1",
@@ -39,168 +40,208 @@ const CALLS: u64 = 10;
 /// `claim-sample` say over files that others made; among these a board, and claim files of both
 /// kinds, that have a right proof of another value in each lane.
 pub fn try_samples<S: Shelf, W: Sink>(alloc: Global, shelf: &mut S, out: &mut W) -> Tried<()> {
-    try_spoiled(alloc, out)?;
-    try_given(alloc, shelf, out)?;
-    try_reads(alloc, shelf, out)?;
-    try_made(alloc, out)
+    let cases = read_cases(alloc, shelf, "samples")?;
+    let mut text = Text::new(alloc);
+    let told = tell_samples(alloc, shelf, out, &mut text, cases.as_slice());
+    told
+}
+
+fn tell_samples<S: Shelf, W: Sink>(
+    alloc: Global,
+    shelf: &mut S,
+    out: &mut W,
+    text: &mut Text,
+    cases: &[u8],
+) -> Tried<()> {
+    push_spoiled(alloc, text)?;
+    push_given(alloc, shelf, text, cases)?;
+    text.word(b"faults of sample: ");
+    push_reads(alloc, shelf, text)?;
+    push_made(alloc, text)?;
+    text.put(out)
 }
 
 /// Tells what is said over the files of each case of `samples`, which is `PUBLIC CHALLENGE REPLY
 /// CHALLENGE REPLY|WORDS|TOLD`.
-fn try_given<S: Shelf, W: Sink>(alloc: Global, shelf: &mut S, out: &mut W) -> Tried<()> {
-    let cases = read_cases(alloc, shelf, "samples")?;
-    for case in cases.as_slice().split(|byte| *byte == b'\n') {
-        if !case.is_empty() {
-            let text = given_text(alloc, shelf, case)?;
-            out.put(text.as_slice())?;
+fn push_given<S: Shelf>(alloc: Global, shelf: &mut S, text: &mut Text, cases: &[u8]) -> Tried<()> {
+    let mut rest = cases;
+    for _ in 0..cases.len() {
+        if rest.is_empty() {
+            return Ok(());
         }
+        let (case, behind) = cut(rest, b'\n');
+        push_case(alloc, shelf, text, case)?;
+        rest = behind;
     }
     Ok(())
 }
 
 /// What is told of a case.
-fn given_text<S: Shelf>(alloc: Global, shelf: &mut S, case: &[u8]) -> Tried<Vec<u8>> {
-    let mut parts = case.split(|byte| *byte == b'|');
-    let sources = parts.next().ok_or(Unreplayed::NoCase)?;
-    let line = parts.next().ok_or(Unreplayed::NoCase)?;
-    let told = parts.next().ok_or(Unreplayed::NoCase)?;
-    let mut files = MemShelf::new(alloc);
-    put_files(alloc, shelf, &mut files, sources, names_of(line))?;
-    sample_text(alloc, told, line, files)
+fn push_case<S: Shelf>(alloc: Global, shelf: &mut S, text: &mut Text, case: &[u8]) -> Tried<()> {
+    if case.is_empty() {
+        return Ok(());
+    }
+    let (sources, behind) = cut(case, b'|');
+    let (line, told) = cut(behind, b'|');
+    let files = given_files(alloc, shelf, sources, names_of(line))?;
+    let pushed = push_sample(alloc, text, told, line, files);
+    pushed
 }
 
 /// The names of the files that these words write.
-fn names_of(line: &[u8]) -> [&'static str; 5] {
+fn names_of(line: &[u8]) -> &'static [&'static str] {
     if line == LINE { NAMES } else { CLAIM_NAMES }
 }
 
-/// Puts the files of these sources under these names.
+/// The files of these sources under these names.
+fn given_files<S: Shelf>(
+    alloc: Global,
+    shelf: &mut S,
+    sources: &[u8],
+    names: &[&str],
+) -> Tried<MemShelf> {
+    let mut files = MemShelf::new(alloc);
+    let put = put_files(alloc, shelf, &mut files, sources, names);
+    put?;
+    Ok(files)
+}
+
 fn put_files<S: Shelf>(
     alloc: Global,
     shelf: &mut S,
     files: &mut MemShelf,
     sources: &[u8],
-    names: [&'static str; 5],
+    names: &[&str],
 ) -> Tried<()> {
-    for (name, place) in names.iter().zip(0usize..=4) {
-        let source = text_of(alloc, word_at(sources, place)?)?;
-        let bytes = read_cases(alloc, shelf, source.as_str())?;
+    let mut rest = sources;
+    for name in names {
+        let (source, behind) = cut(rest, b' ');
+        let bytes = read_cases(alloc, shelf, name_of(source)?)?;
         files.put_file(name, bytes.as_slice())?;
+        rest = behind;
     }
     Ok(())
 }
 
 /// Tells whether each fault is told of the calls that read the files.
-fn try_reads<S: Shelf, W: Sink>(alloc: Global, shelf: &mut S, out: &mut W) -> Tried<()> {
-    let mut text = Vec::from_slice(alloc, b"faults of sample: ")?;
-    push_reads(alloc, &mut text, shelf)?;
-    out.put(text.as_slice())?;
-    Ok(())
-}
-
-fn push_reads<S: Shelf>(alloc: Global, text: &mut Vec<u8>, shelf: &mut S) -> Tried<()> {
+fn push_reads<S: Shelf>(alloc: Global, shelf: &mut S, text: &mut Text) -> Tried<()> {
     for call in 1..=CALLS {
         if !is_read_fault(alloc, shelf, call)? {
-            text.extend_from_slice(b"untold at call ")?;
-            push_decimal(text, call)?;
-            end_line(text)?;
+            text.word(b"untold at call ");
+            text.number(call);
+            text.word(b"\n");
             return Ok(());
         }
     }
-    push_line(text, b"every call told")?;
+    text.word(b"every call told");
+    text.word(b"\n");
     Ok(())
 }
 
 /// Whether `sample 1` says nothing but that the outside failed, where the call of that number
 /// fails.
 fn is_read_fault<S: Shelf>(alloc: Global, shelf: &mut S, call: u64) -> Tried<bool> {
-    let mut files = MemShelf::new(alloc);
-    put_files(alloc, shelf, &mut files, LANES, NAMES)?;
+    let mut files = given_files(alloc, shelf, LANES, NAMES)?;
     files.fail_at(call)?;
+    let mut fixed = WatchedShelf::fixed(alloc, files);
     let mut out = MemSink::new(alloc);
-    let status = status_of(
-        alloc,
-        &mut WatchedShelf::fixed(alloc, files),
-        &mut out,
-        LINE,
-    )?;
-    Ok(status == 6 && out.bytes().is_empty())
+    let silent = is_silent(alloc, &mut fixed, &mut out);
+    silent
 }
 
-fn try_spoiled<W: Sink>(alloc: Global, out: &mut W) -> Tried<()> {
-    let files = spoiled_files(alloc)?;
-    let text = sample_text(alloc, b"x begins sample-reply-2", LINE, files)?;
-    out.put(text.as_slice())?;
-    Ok(())
+/// Whether `sample 1` says nothing there but that the outside failed.
+fn is_silent(alloc: Global, fixed: &mut WatchedShelf, out: &mut MemSink) -> Tried<bool> {
+    let status = status_of(alloc, fixed, out, LINE)?;
+    Ok(status == 6 && out.bytes().is_empty())
 }
 
 /// Tells of the board that `sample 1` makes its first line, its first seat, and what that commits
 /// to in the first lane.
-fn try_made<W: Sink>(alloc: Global, out: &mut W) -> Tried<()> {
+fn push_made(alloc: Global, text: &mut Text) -> Tried<()> {
     let mut files = MemShelf::new(alloc);
-    write_sample(alloc, &mut files)?;
-    let text = front_text(alloc, files.file("sample-board").unwrap_or(&[]))?;
-    out.put(text.as_slice())?;
+    let pushed = push_made_there(alloc, text, &mut files);
+    pushed
+}
+
+fn push_made_there(alloc: Global, text: &mut Text, files: &mut MemShelf) -> Tried<()> {
+    write_sample(alloc, files)?;
+    push_front(text, files.file("sample-board").unwrap_or(&[]));
     Ok(())
 }
 
 /// The first line of a board, and its eighth and ninth.
-fn front_text(alloc: Global, board: &[u8]) -> Tried<Vec<u8>> {
-    let mut text = Vec::new(alloc);
-    for (line, number) in board.split(|byte| *byte == b'\n').zip(1u32..=9) {
+fn push_front(text: &mut Text, board: &[u8]) {
+    let mut rest = board;
+    for number in 1u32..=9 {
+        let (line, behind) = cut(rest, b'\n');
         if number == 1 || 7 < number {
-            push_line(&mut text, line)?;
+            text.word(line);
+            text.word(b"\n");
         }
+        rest = behind;
     }
-    Ok(text)
 }
 
 /// Writes the files of `sample 1`.
 fn write_sample(alloc: Global, files: &mut MemShelf) -> Tried<()> {
-    if status_of(alloc, files, &mut MemSink::new(alloc), LINE)? != 0 {
+    let mut out = MemSink::new(alloc);
+    let status = status_of(alloc, files, &mut out, LINE)?;
+    if status != 0 {
         return Err(Unreplayed::NoCase);
     }
     Ok(())
 }
 
 /// What is told of the files, and what these words say over them.
-fn sample_text(alloc: Global, told: &[u8], line: &[u8], files: MemShelf) -> Tried<Vec<u8>> {
-    let mut text = Vec::new(alloc);
-    push_sample(
-        alloc,
-        &mut text,
-        &mut WatchedShelf::fixed(alloc, files),
-        told,
-        line,
-    )?;
-    Ok(text)
-}
-
 fn push_sample(
     alloc: Global,
-    text: &mut Vec<u8>,
-    shelf: &mut WatchedShelf,
+    text: &mut Text,
+    told: &[u8],
+    line: &[u8],
+    files: MemShelf,
+) -> Tried<()> {
+    let mut fixed = WatchedShelf::fixed(alloc, files);
+    let mut out = MemSink::new(alloc);
+    let pushed = push_over(alloc, text, &mut fixed, &mut out, told, line);
+    pushed
+}
+
+fn push_over(
+    alloc: Global,
+    text: &mut Text,
+    fixed: &mut WatchedShelf,
+    out: &mut MemSink,
     told: &[u8],
     line: &[u8],
 ) -> Tried<()> {
-    push_line(text, told)?;
-    let out = push_run(alloc, text, shelf, line)?;
-    text.extend_from_slice(out.bytes())?;
+    text.word(told);
+    text.word(b"\n");
+    let status = status_of(alloc, fixed, out, line)?;
+    push_status(text, line, status);
+    text.word(out.bytes());
     Ok(())
+}
+
+/// Tells what `sample 1` says over its own files, of which one is spoiled.
+fn push_spoiled(alloc: Global, text: &mut Text) -> Tried<()> {
+    let files = spoiled_files(alloc)?;
+    let pushed = push_sample(alloc, text, b"x begins sample-reply-2", LINE, files);
+    pushed
 }
 
 /// The files that `sample 1` writes, of which one has `x` for its first byte.
 fn spoiled_files(alloc: Global) -> Tried<MemShelf> {
     let mut files = MemShelf::new(alloc);
-    write_spoiled(alloc, &mut files)?;
+    let mut wrong = Vec::new(alloc);
+    let written = write_spoiled(alloc, &mut files, &mut wrong);
+    written?;
     Ok(files)
 }
 
-fn write_spoiled(alloc: Global, files: &mut MemShelf) -> Tried<()> {
+fn write_spoiled(alloc: Global, files: &mut MemShelf, wrong: &mut Vec<u8>) -> Tried<()> {
     write_sample(alloc, files)?;
-    let right = files.file(SPOILED).ok_or(Unreplayed::NoCase)?;
-    let mut wrong = Vec::from_slice(alloc, b"x")?;
-    wrong.extend_from_slice(behind(right, 1))?;
+    wrong.push(b'x')?;
+    wrong.extend_from_slice(behind(files.file(SPOILED).ok_or(Unreplayed::NoCase)?, 1))?;
     files.put_file(SPOILED, wrong.as_slice())?;
     Ok(())
 }

@@ -1,4 +1,5 @@
 // What is said of seeds that are dry, which no sample has, and of verdicts on a second reply.
+use crate::text::Text;
 use std::alloc::Global;
 use vk_app::dry_seed;
 use vk_audit::judged;
@@ -46,8 +47,8 @@ pub fn try_sayings<W: Sink>(alloc: Global, out: &mut W) -> Tried<()> {
     out.put(bidder_dry_line(3).as_bytes())?;
     out.put(house_dry_line(1, 20).as_bytes())?;
     tell(alloc, out, &dry_seed(64))?;
-    for verdict in REFUSALS {
-        let said = judged(alloc, &NAMES, true, verdict)?;
+    for verdict in &REFUSALS {
+        let said = judged(alloc, &NAMES, true, *verdict)?;
         tell(alloc, out, &said)?;
     }
     Ok(())
@@ -55,9 +56,15 @@ pub fn try_sayings<W: Sink>(alloc: Global, out: &mut W) -> Tried<()> {
 
 /// Tells the status, and what is said.
 fn tell<W: Sink>(alloc: Global, out: &mut W, said: &Said) -> Tried<()> {
-    let status = said.status();
-    let line = format!(in alloc; "status {status}\n")?;
-    out.put(line.as_bytes())?;
+    put_status(alloc, out, said.status())?;
     said.print(out)?;
     Ok(())
+}
+
+/// A line of the status.
+fn put_status<W: Sink>(alloc: Global, out: &mut W, status: u8) -> Tried<()> {
+    let mut text = Text::new(alloc);
+    text.line(b"status", u64::from(status));
+    let put = text.put(out);
+    put
 }
