@@ -1,13 +1,16 @@
 // The files of the system, of whose calls some go wrong.
 use crate::plan::{Call, Plan};
 use std::alloc::Allocator;
-use std::fs::{Metadata, OpenFile, OpenOptions};
-use std::io::{self, Read, Seek, SeekFrom, Write};
+use std::fs::{FileTimes, Metadata, OpenFile, OpenOptions, Permissions};
+use std::io::{self, ErrorKind, PipeReader, PipeWriter, Read, Seek, SeekFrom, Write};
+use std::os::fd::BorrowedFd;
+use std::os::unix::net::SocketAddr;
 use std::path::PathBuf;
 use std::rt::Files;
 
-/// The files that `rt` reaches. Each call is passed on to them, but those that are planned to go
-/// wrong.
+/// The files that `rt` reaches. Each call that a shelf makes is passed on to them, but those that
+/// are planned to go wrong. What a shelf never calls isn't supported; the trait says so itself of
+/// the last of these calls, but what an impl leaves to its trait is dearer to prove.
 #[derive(Drop)]
 pub struct Faulty<'a, R: Files> {
     pub rt: &'a R,
@@ -70,6 +73,18 @@ impl<F: OpenFile> OpenFile for FaultyFile<'_, F> {
         self.plan.begin(Call::Sync)?;
         self.file.sync_data()
     }
+
+    fn set_permissions(&self, _perm: Permissions) -> io::Result<()> {
+        Err(io::Error::from(ErrorKind::Unsupported))
+    }
+
+    fn set_times(&self, _times: FileTimes) -> io::Result<()> {
+        Err(io::Error::from(ErrorKind::Unsupported))
+    }
+
+    fn try_clone(&self) -> io::Result<Self> {
+        Err(io::Error::from(ErrorKind::Unsupported))
+    }
 }
 
 impl<'a, R: Files> Files for Faulty<'a, R> {
@@ -86,8 +101,8 @@ impl<'a, R: Files> Files for Faulty<'a, R> {
         })
     }
 
-    fn open_dir(&self, path: &str) -> io::Result<R::Dir> {
-        self.rt.open_dir(path)
+    fn open_dir(&self, _path: &str) -> io::Result<R::Dir> {
+        Err(io::Error::from(ErrorKind::Unsupported))
     }
 
     fn metadata(&self, path: &str) -> io::Result<Metadata> {
@@ -95,32 +110,32 @@ impl<'a, R: Files> Files for Faulty<'a, R> {
         self.rt.metadata(path)
     }
 
-    fn symlink_metadata(&self, path: &str) -> io::Result<Metadata> {
-        self.rt.symlink_metadata(path)
+    fn symlink_metadata(&self, _path: &str) -> io::Result<Metadata> {
+        Err(io::Error::from(ErrorKind::Unsupported))
     }
 
-    fn copy(&self, from: &str, to: &str) -> io::Result<u64> {
-        self.rt.copy(from, to)
+    fn copy(&self, _from: &str, _to: &str) -> io::Result<u64> {
+        Err(io::Error::from(ErrorKind::Unsupported))
     }
 
-    fn rename(&self, from: &str, to: &str) -> io::Result<()> {
-        self.rt.rename(from, to)
+    fn rename(&self, _from: &str, _to: &str) -> io::Result<()> {
+        Err(io::Error::from(ErrorKind::Unsupported))
     }
 
-    fn remove_file(&self, path: &str) -> io::Result<()> {
-        self.rt.remove_file(path)
+    fn remove_file(&self, _path: &str) -> io::Result<()> {
+        Err(io::Error::from(ErrorKind::Unsupported))
     }
 
-    fn create_dir(&self, path: &str) -> io::Result<()> {
-        self.rt.create_dir(path)
+    fn create_dir(&self, _path: &str) -> io::Result<()> {
+        Err(io::Error::from(ErrorKind::Unsupported))
     }
 
-    fn remove_dir(&self, path: &str) -> io::Result<()> {
-        self.rt.remove_dir(path)
+    fn remove_dir(&self, _path: &str) -> io::Result<()> {
+        Err(io::Error::from(ErrorKind::Unsupported))
     }
 
-    fn remove_dir_all<B: Allocator>(&self, alloc: B, path: &str) -> io::Result<()> {
-        self.rt.remove_dir_all(alloc, path)
+    fn remove_dir_all<B: Allocator>(&self, _alloc: B, _path: &str) -> io::Result<()> {
+        Err(io::Error::from(ErrorKind::Unsupported))
     }
 
     fn canonicalize<B: Allocator>(&self, alloc: B, path: &str) -> io::Result<PathBuf<B>> {
@@ -130,5 +145,37 @@ impl<'a, R: Files> Files for Faulty<'a, R> {
 
     fn read_link<B: Allocator>(&self, alloc: B, path: &str) -> io::Result<PathBuf<B>> {
         self.rt.read_link(alloc, path)
+    }
+
+    fn hard_link(&self, _original: &str, _link: &str) -> io::Result<()> {
+        Err(io::Error::from(ErrorKind::Unsupported))
+    }
+
+    fn set_permissions(&self, _path: &str, _perm: Permissions) -> io::Result<()> {
+        Err(io::Error::from(ErrorKind::Unsupported))
+    }
+
+    fn symlink(&self, _original: &str, _link: &str) -> io::Result<()> {
+        Err(io::Error::from(ErrorKind::Unsupported))
+    }
+
+    fn pipe(&self) -> io::Result<(PipeReader, PipeWriter)> {
+        Err(io::Error::from(ErrorKind::Unsupported))
+    }
+
+    fn chown(&self, _path: &str, _uid: Option<u32>, _gid: Option<u32>) -> io::Result<()> {
+        Err(io::Error::from(ErrorKind::Unsupported))
+    }
+
+    fn lchown(&self, _path: &str, _uid: Option<u32>, _gid: Option<u32>) -> io::Result<()> {
+        Err(io::Error::from(ErrorKind::Unsupported))
+    }
+
+    fn create_dir_with_mode(&self, _path: &str, _mode: u32) -> io::Result<()> {
+        Err(io::Error::from(ErrorKind::Unsupported))
+    }
+
+    fn bind_unix(&self, _socket: BorrowedFd<'_>, _addr: &SocketAddr) -> io::Result<()> {
+        Err(io::Error::from(ErrorKind::Unsupported))
     }
 }

@@ -10,40 +10,40 @@ use std::rt::Files;
 use std::{fs, io};
 use vk_cases::{Tried, Unreplayed, number_at, word_at};
 
-/// Makes what a step names, and tells that it is made.
-pub fn make(room: &Room<'_>, word: &str, step: &[u8], told: &mut Vec<u8>) -> Tried<()> {
-    let path = room.path(word_at(step, 1)?)?;
-    make_at(room, path.as_str(), word, step)?;
+/// Makes what a step says at that path, or takes it away, and tells so.
+pub fn make(room: &Room<'_>, word: &str, path: &str, step: &[u8], told: &mut Vec<u8>) -> Tried<()> {
+    match word {
+        "folder" => done(fs::create_dir(room.rt, path))?,
+        "file" => done(put(room.rt, path, word_at(step, 2)?))?,
+        "link" => name(room, step, path, false)?,
+        "hard" => name(room, step, path, true)?,
+        "large" => large(room, step, path)?,
+        "remove" => done(fs::remove_file(room.rt, path))?,
+        _ => return Err(Unreplayed::NoCase),
+    }
     push(told, "made")
 }
 
 /// Makes a pipe, both of whose ends stay open, and a link to it.
-pub fn make_pipe(edge: &mut Edge<'_>, step: &[u8], told: &mut Vec<u8>) -> Tried<()> {
-    let room = edge.room;
-    let path = room.path(word_at(step, 1)?)?;
-    let (reader, writer) = done(room.rt.pipe())?;
-    let number = writer.as_raw_fd();
-    let target = format!(in room.alloc; "/proc/self/fd/{number}")?;
-    done(symlink(room.rt, target.as_str(), path.as_str()))?;
-    edge.pipe = Some((reader, writer));
+pub fn make_pipe(edge: &mut Edge<'_>, path: &str, told: &mut Vec<u8>) -> Tried<()> {
+    let number = open_pipe(edge)?;
+    link_to_file(edge.room, number, path)?;
     push(told, "made")
 }
 
-fn make_at(room: &Room<'_>, path: &str, word: &str, step: &[u8]) -> Tried<()> {
-    match word {
-        "folder" => done(fs::create_dir(room.rt, path)),
-        "file" => file(room, step, path),
-        "link" => link(room, step, path),
-        "hard" => hard_link(room, step, path),
-        "large" => large(room, step, path),
-        "remove" => done(fs::remove_file(room.rt, path)),
-        _ => Err(Unreplayed::NoCase),
-    }
+/// Opens a pipe in the place of the one before. Answers the number of the end that is written.
+fn open_pipe(edge: &mut Edge<'_>) -> Tried<i32> {
+    let pipe = done(edge.room.rt.pipe())?;
+    let number = pipe.1.as_raw_fd();
+    edge.pipe = Some(pipe);
+    Ok(number)
 }
 
-/// A file at the path, with the text that the step names.
-fn file(room: &Room<'_>, step: &[u8], path: &str) -> Tried<()> {
-    done(put(room.rt, path, word_at(step, 2)?))
+/// Makes a link at the path to the open file of that number.
+fn link_to_file(room: &Room<'_>, number: i32, path: &str) -> Tried<()> {
+    let target = format!(in room.alloc; "/proc/self/fd/{number}")?;
+    let linked = symlink(room.rt, target.as_str(), path);
+    done(linked)
 }
 
 /// A file with this text, which everybody may read.
@@ -52,16 +52,15 @@ fn put(rt: &HostRuntime, path: &str, text: &[u8]) -> io::Result<()> {
     fs::set_permissions(rt, path, Permissions::from_mode(0o644))
 }
 
-/// A link at the path, to the second path that the step names.
-fn link(room: &Room<'_>, step: &[u8], path: &str) -> Tried<()> {
+/// A link at the path to the second path that the step names, or the file of that once more.
+fn name(room: &Room<'_>, step: &[u8], path: &str, is_hard: bool) -> Tried<()> {
     let target = room.path(word_at(step, 2)?)?;
-    done(symlink(room.rt, target.as_str(), path))
-}
-
-/// The file of the second path that the step names, once more at the path.
-fn hard_link(room: &Room<'_>, step: &[u8], path: &str) -> Tried<()> {
-    let file = room.path(word_at(step, 2)?)?;
-    done(fs::hard_link(room.rt, file.as_str(), path))
+    let named = if is_hard {
+        fs::hard_link(room.rt, target.as_str(), path)
+    } else {
+        symlink(room.rt, target.as_str(), path)
+    };
+    done(named)
 }
 
 /// A file of a length, which holds nothing but zeros and a text at a place.

@@ -4,12 +4,10 @@ use crate::room::done;
 use crate::steps::{push, push_bytes};
 use std::fs;
 use std::os::unix::fs::{MetadataExt, PermissionsExt};
-use vk_cases::{Tried, Unreplayed, word_at};
+use vk_cases::{Tried, Unreplayed};
 
-/// Tells of the file that a step names.
-pub fn see(edge: &mut Edge<'_>, word: &str, step: &[u8], told: &mut Vec<u8>) -> Tried<()> {
-    let path = edge.room.path(word_at(step, 1)?)?;
-    let path = path.as_str();
+/// Tells of the file at that path.
+pub fn see(edge: &mut Edge<'_>, word: &str, path: &str, told: &mut Vec<u8>) -> Tried<()> {
     match word {
         "see" => see_bytes(edge, path, told),
         "mode" => see_mode(edge, path, told),
@@ -31,8 +29,15 @@ fn see_bytes(edge: &Edge<'_>, path: &str, told: &mut Vec<u8>) -> Tried<()> {
 /// Who may read and write the file, as the last nine bits of its mode.
 fn see_mode(edge: &Edge<'_>, path: &str, told: &mut Vec<u8>) -> Tried<()> {
     let mode = done(fs::metadata(edge.room.rt, path))?.permissions().mode() & 0o777;
-    let text = format!(in edge.room.alloc; "{mode:o}")?;
-    push(told, text.as_str())
+    push_digit(told, mode >> 6)?;
+    push_digit(told, mode >> 3)?;
+    push_digit(told, mode)
+}
+
+/// Puts the last of the number's octal digits behind what is told.
+fn push_digit(told: &mut Vec<u8>, number: u32) -> Tried<()> {
+    told.push(b'0'.wrapping_add((number % 8) as u8))?;
+    Ok(())
 }
 
 /// When the file was written last, in seconds and nanoseconds.

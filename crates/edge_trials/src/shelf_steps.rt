@@ -12,19 +12,12 @@ const TURN: u64 = 251;
 /// The most bytes of which each is told.
 const MOST_TOLD: u64 = 16;
 
-/// Has the shelf do what a step says of the file that it names.
-pub fn ask(edge: &mut Edge<'_>, word: &str, step: &[u8], told: &mut Vec<u8>) -> Tried<()> {
-    let alloc = edge.room.alloc;
-    let path = edge.room.path(word_at(step, 1)?)?;
-    let asked = ask_of(alloc, &mut edge.shelf, path.as_str(), word, step, told);
-    asked
-}
-
-fn ask_of<S: Shelf>(
+/// Has the shelf do what a step says of the file at that path.
+pub fn ask<S: Shelf>(
     alloc: Global,
     shelf: &mut S,
-    path: &str,
     word: &str,
+    path: &str,
     step: &[u8],
     told: &mut Vec<u8>,
 ) -> Tried<()> {
@@ -128,14 +121,8 @@ fn tell_whole<S: Shelf>(
     }
 }
 
-/// Settles the shelf.
-pub fn settle(edge: &mut Edge<'_>, told: &mut Vec<u8>) -> Tried<()> {
-    push_answer(told, edge.shelf.settle())
-}
-
-/// What went wrong last, where it was with the file that a step names.
-pub fn tell_fault(edge: &Edge<'_>, step: &[u8], told: &mut Vec<u8>) -> Tried<()> {
-    let path = edge.room.path(word_at(step, 1)?)?;
+/// What went wrong last, where it was with the file at that path.
+pub fn tell_fault(edge: &Edge<'_>, path: &str, told: &mut Vec<u8>) -> Tried<()> {
     match edge.shelf.last_fault() {
         None => push(told, "nothing"),
         Some(fault) if fault.name == path.as_bytes() => push(told, fault.reason),

@@ -4,8 +4,9 @@ use crate::making::{make, make_pipe};
 use crate::plan::{Call, Fault, Wrong};
 use crate::room::done;
 use crate::seeing::see;
-use crate::shelf_steps::{ask, settle, tell_fault};
-use vk_cases::{Tried, Unreplayed, number_at, text_of, word_at};
+use crate::shelf_steps::{ask, tell_fault};
+use std::str::from_utf8;
+use vk_cases::{Tried, Unreplayed, number_at, word_at};
 use vk_io::{OutsideErr, Sink};
 
 /// Takes a step, and tells what came of it. A PATH is from the root to the trial's folder and on
@@ -30,27 +31,43 @@ use vk_io::{OutsideErr, Sink};
 /// - `wrong CALL FIRST LAST HOW`: from now on those calls of the kind go wrong, and no others.
 /// - `met`: whether all of them were made.
 pub fn take_step(edge: &mut Edge<'_>, step: &[u8], told: &mut Vec<u8>) -> Tried<()> {
-    let word = text_of(edge.room.alloc, word_at(step, 0)?)?;
-    let taken = take_word(edge, word.as_str(), step, told);
+    let word = text_in(word_at(step, 0)?)?;
+    let path = edge.room.path(word_at(step, 1).unwrap_or(&[]))?;
+    let taken = take_at(edge, word, path.as_str(), step, told);
     taken
 }
 
-/// Takes a step of that word.
-fn take_word(edge: &mut Edge<'_>, word: &str, step: &[u8], told: &mut Vec<u8>) -> Tried<()> {
+/// The word as text, which is compared at less cost to the prover than bytes are.
+pub fn text_in(word: &[u8]) -> Tried<&str> {
+    match from_utf8(word) {
+        Ok(text) => Ok(text),
+        Err(_) => Err(Unreplayed::NoCase),
+    }
+}
+
+/// Takes a step of that word, of which that is the path, where it has one.
+fn take_at(
+    edge: &mut Edge<'_>,
+    word: &str,
+    path: &str,
+    step: &[u8],
+    told: &mut Vec<u8>,
+) -> Tried<()> {
     match word {
-        "folder" | "file" | "link" | "hard" | "large" | "remove" => make(
-            edge.room, word, step, told,
-        ),
-        "pipe" => make_pipe(edge, step, told),
-        "see" | "mode" | "note" | "since" => see(edge, word, step, told),
-        "settle" => settle(edge, told),
-        "why" => tell_fault(edge, step, told),
+        "pipe" => make_pipe(edge, path, told),
+        "see" | "mode" | "note" | "since" => see(edge, word, path, told),
+        "settle" => push_answer(told, edge.shelf.settle()),
+        "why" => tell_fault(edge, path, told),
         "put" => put(&mut edge.sink, step, told),
         "taken" => done(edge.output.push_taken(told)),
         "why-not" => push(told, edge.sink.reason()),
         "wrong" => plan(edge, step, told),
         "met" => push(told, if edge.plan.is_met() { "yes" } else { "no" }),
-        _ => ask(edge, word, step, told),
+        "create" | "append" | "run" | "length" | "read" | "whole" => {
+            let alloc = edge.room.alloc;
+            ask(alloc, &mut edge.shelf, word, path, step, told)
+        }
+        _ => make(edge.room, word, path, step, told),
     }
 }
 
@@ -61,13 +78,11 @@ fn put<W: Sink>(sink: &mut W, step: &[u8], told: &mut Vec<u8>) -> Tried<()> {
 
 /// Has the calls go wrong that a step names.
 fn plan(edge: &Edge<'_>, step: &[u8], told: &mut Vec<u8>) -> Tried<()> {
-    let call = text_of(edge.room.alloc, word_at(step, 1)?)?;
-    let wrong = text_of(edge.room.alloc, word_at(step, 4)?)?;
     edge.plan.set(Fault {
-        call: Call::of(call.as_str()).ok_or(Unreplayed::NoCase)?,
+        call: Call::of(text_in(word_at(step, 1)?)?).ok_or(Unreplayed::NoCase)?,
         first: number_at(step, 2, u64::MAX)?,
         last: number_at(step, 3, u64::MAX)?,
-        wrong: Wrong::of(wrong.as_str()).ok_or(Unreplayed::NoCase)?,
+        wrong: Wrong::of(text_in(word_at(step, 4)?)?).ok_or(Unreplayed::NoCase)?,
     });
     push(told, "planned")
 }

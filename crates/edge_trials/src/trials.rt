@@ -4,47 +4,65 @@ use crate::faulty::Faulty;
 use crate::output::Output;
 use crate::plan::{Call, Fault, Plan, Wrong};
 use crate::room::Room;
-use crate::steps::{push, take_step};
+use crate::steps::{push, take_step, text_in};
+use memchr::memchr;
 use std::io::ErrorKind;
-use vk_cases::{Tried, Unreplayed, behind, text_of, word_at};
+use vk_cases::{Tried, Unreplayed, behind, word_at};
 use vk_io::Sink;
-use vk_lines::end_line;
+use vk_lines::{end_line, push_decimal};
 
 /// How many calls of a kind fail in turn, at most.
 const MOST_CALLS: u64 = 100;
+
+/// What stands before the first of these bytes, and what stands behind it: nothing where there is
+/// none.
+fn cut(text: &[u8], mark: u8) -> (&[u8], &[u8]) {
+    match memchr(mark, text) {
+        Some(at) => (
+            text.get(..at).unwrap_or(text),
+            behind(text, at.saturating_add(1)),
+        ),
+        None => (text, &[]),
+    }
+}
 
 /// Tries all, and tells what came of each step. A trial begins with a line `# STORE`, and its store
 /// is at that path. Where the line is `# STORE CALL`, its steps are taken again and again: each
 /// call of the kind fails in turn, and the step is told that ends with a fault.
 pub fn try_all<W: Sink>(room: &Room<'_>, trials: &[u8], out: &mut W) -> Tried<()> {
-    for trial in trials.split(|byte| *byte == b'#') {
+    let mut rest = trials;
+    for _ in 0..trials.len() {
+        let (trial, behind) = cut(rest, b'#');
+        rest = behind;
         if !trial.is_empty() {
-            let mut told = Vec::new(room.alloc);
-            let tried = try_one(room, trial, &mut told);
-            out.put(told.as_slice())?;
-            tried?;
+            try_one(room, trial, out)?;
         }
     }
     Ok(())
 }
 
-/// Tries the steps behind the first line, as that says.
-fn try_one(room: &Room<'_>, trial: &[u8], told: &mut Vec<u8>) -> Tried<()> {
-    let head = first_line(trial)?;
-    let steps = behind(trial, head.len().saturating_add(1));
-    let store = room.path(word_at(head, 1)?)?;
-    match word_at(head, 2) {
-        Ok(call) => try_each(room, store.as_str(), call, steps, told),
-        Err(_) => on_edge(room, store.as_str(), &Plan::new(), None, steps, told),
+/// Tries the steps behind the first line, and tells what came of them, also where it stopped before
+/// the end.
+fn try_one<W: Sink>(room: &Room<'_>, trial: &[u8], out: &mut W) -> Tried<()> {
+    let mut told = Vec::new(room.alloc);
+    let tried = try_steps(room, trial, &mut told);
+    let put = out.put(told.as_slice());
+    match put {
+        Ok(()) => tried,
+        Err(refusal) => Err(Unreplayed::from(refusal)),
     }
 }
 
-/// The first line of a trial, without the line feed behind it.
-fn first_line(trial: &[u8]) -> Tried<&[u8]> {
-    trial
-        .split(|byte| *byte == b'\n')
-        .next()
-        .ok_or(Unreplayed::NoCase)
+/// Tries the steps behind the first line, as that says.
+fn try_steps(room: &Room<'_>, trial: &[u8], told: &mut Vec<u8>) -> Tried<()> {
+    let (head, steps) = cut(trial, b'\n');
+    let plan = Plan::new();
+    let store = room.path(word_at(head, 1)?)?;
+    let tried = match word_at(head, 2) {
+        Ok(word) => try_each(room, store.as_str(), &plan, word, steps, told),
+        Err(_) => on_edge(room, store.as_str(), &plan, false, steps, told),
+    };
+    tried
 }
 
 /// Takes the steps where the first call of the kind fails, then where the second does, and so on,
@@ -52,13 +70,12 @@ fn first_line(trial: &[u8]) -> Tried<&[u8]> {
 fn try_each(
     room: &Room<'_>,
     store: &str,
+    plan: &Plan,
     word: &[u8],
     steps: &[u8],
     told: &mut Vec<u8>,
 ) -> Tried<()> {
-    let word = text_of(room.alloc, word)?;
-    let call = Call::of(word.as_str()).ok_or(Unreplayed::NoCase)?;
-    let plan = Plan::new();
+    let call = Call::of(text_in(word)?).ok_or(Unreplayed::NoCase)?;
     for at in 1..=MOST_CALLS {
         plan.set(Fault {
             call,
@@ -66,8 +83,8 @@ fn try_each(
             last: at,
             wrong: Wrong::Fails(ErrorKind::Other),
         });
-        let text = format!(in room.alloc; "{word} {at}: ")?;
-        on_edge(room, store, &plan, Some(text.as_str()), steps, told)?;
+        push_call(told, word, at)?;
+        on_edge(room, store, plan, true, steps, told)?;
         if !plan.is_met() {
             return Ok(());
         }
@@ -75,12 +92,20 @@ fn try_each(
     Err(Unreplayed::NoCase)
 }
 
+/// Puts behind the text which call fails.
+fn push_call(told: &mut Vec<u8>, word: &[u8], at: u64) -> Tried<()> {
+    told.extend_from_slice(word)?;
+    push(told, " ")?;
+    push_decimal(told, at)?;
+    push(told, ": ")
+}
+
 /// Takes the steps over a new shelf, in a new folder: all of them, or up to the first fault.
 fn on_edge(
     room: &Room<'_>,
     store: &str,
     plan: &Plan,
-    call: Option<&str>,
+    until_fault: bool,
     steps: &[u8],
     told: &mut Vec<u8>,
 ) -> Tried<()> {
@@ -91,21 +116,34 @@ fn on_edge(
     };
     let output = Output::new(room.alloc, &*plan);
     let mut edge = Edge::new(&*room, &system, &output, &*store);
-    let taken = match call {
-        None => take_all(&mut edge, steps, told),
-        Some(call) => take_until_fault(&mut edge, call, steps, told),
-    };
+    let taken = take_steps(&mut edge, until_fault, steps, told);
     taken
 }
 
-/// Takes all steps, and tells what came of each.
-fn take_all(edge: &mut Edge<'_>, steps: &[u8], told: &mut Vec<u8>) -> Tried<()> {
-    for step in steps.split(|byte| *byte == b'\n') {
+/// Takes all steps, and tells what came of each; or those up to the first that ends with a fault,
+/// of which alone is told.
+fn take_steps(
+    edge: &mut Edge<'_>,
+    until_fault: bool,
+    steps: &[u8],
+    told: &mut Vec<u8>,
+) -> Tried<()> {
+    let mut rest = steps;
+    for _ in 0..steps.len() {
+        let (step, behind) = cut(rest, b'\n');
+        rest = behind;
         if !step.is_empty() {
+            let front = told.len();
             tell_step(edge, step, told)?;
+            if until_fault {
+                if told.as_slice().ends_with(b": fault\n") {
+                    return Ok(());
+                }
+                told.truncate(front);
+            }
         }
     }
-    Ok(())
+    push(told, if until_fault { "no such call\n" } else { "" })
 }
 
 /// Takes a step, and tells what came of it. What is said for a reader alone is told as it is.
@@ -117,33 +155,4 @@ fn tell_step(edge: &mut Edge<'_>, step: &[u8], told: &mut Vec<u8>) -> Tried<()> 
     }
     end_line(told)?;
     Ok(())
-}
-
-/// Takes the steps up to the first that ends with a fault, and tells behind the call which that is.
-fn take_until_fault(
-    edge: &mut Edge<'_>,
-    call: &str,
-    steps: &[u8],
-    told: &mut Vec<u8>,
-) -> Tried<()> {
-    push(told, call)?;
-    for step in steps.split(|byte| *byte == b'\n') {
-        if !step.is_empty() && ends_with_fault(edge, step)? {
-            return push_stop(told, step);
-        }
-    }
-    push(told, "no such call\n")
-}
-
-/// Whether the step ends with a fault.
-fn ends_with_fault(edge: &mut Edge<'_>, step: &[u8]) -> Tried<bool> {
-    let mut told = Vec::new(edge.room.alloc);
-    tell_step(edge, step, &mut told)?;
-    Ok(told.as_slice().ends_with(b": fault\n"))
-}
-
-/// The step that ended with a fault.
-fn push_stop(told: &mut Vec<u8>, step: &[u8]) -> Tried<()> {
-    told.extend_from_slice(step)?;
-    push(told, ": fault\n")
 }
