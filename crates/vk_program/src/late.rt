@@ -1,12 +1,12 @@
 //! The keeper of a house that is opened no sooner than it is asked.
 
-ghost use Rattle.std.specs.Prelude.{◌≡◌, None, IfOk, IfSome, IsSome, OnErr};
+ghost use Rattle.std.specs.Prelude.{◌≡◌, ◌⊎◌, None, Some, Err, IfOk, IfSome, IsSome, IsTrue, OnErr, OnOk};
 ghost use Rattle.std.specs.FinMap as map;
 ghost use Rattle.vk_io.specs.Faults.{Causes};
 ghost use Rattle.vk_io.specs.Files.{Modelled};
 ghost use Rattle.vk_keeper.specs.Auctions.{IsAuction};
 ghost use Rattle.vk_keeper.specs.Ledgers.{IsLedger, Keeps};
-ghost use Rattle.vk_keeper.specs.Turns.{AfterGet};
+ghost use Rattle.vk_keeper.specs.Turns.{AfterGet, AfterPut};
 ghost use Rattle.vk_program.specs.Houses.{CausesUnopened, OpenOrNone, told_by};
 
 use crate::house::{HousePlace, Unopened};
@@ -57,6 +57,7 @@ impl<H: HousePlace> LateKeeper<H> {
             ≡ told_by H.Kept.ledger (H.ledger self.old.house) self.old.kept }
         ensures causes { CausesUnopened result (H.faults self.old.house) (H.faults self.new.house) }
         ensures turns { self.new.turns ≡ self.old.turns }
+        ensures noted { self.new.was_unmade ≡ self.old.was_unmade }
     {
         if self.kept.is_some() {
             return Ok(());
@@ -79,6 +80,7 @@ impl<H: HousePlace> LateKeeper<H> {
         ensures kept { self.new.kept ≡ Some kept }
         ensures house { self.new.house ≡ self.old.house }
         ensures turns { self.new.turns ≡ self.old.turns }
+        ensures noted { self.new.was_unmade ≡ self.old.was_unmade }
     {
         if let Some(other) = self.kept.replace(kept) {
             let _ = self.house.close(other);
@@ -95,6 +97,7 @@ impl<H: HousePlace> LateKeeper<H> {
             → H.unmade self.new.house × (self.new.kept ≡ None) }
         ensures causes { CausesUnopened result (H.faults self.old.house) (H.faults self.new.house) }
         ensures turns { self.new.turns ≡ self.old.turns }
+        ensures noted { self.new.was_unmade ≡ self.old.was_unmade }
     {
         if self.kept.is_some() {
             return Ok(true);
@@ -120,6 +123,8 @@ impl<H: HousePlace> LateKeeper<H> {
         ensures causes { Causes OutsideErr.Failed result (H.faults self.old.house)
             (H.faults self.new.house) }
         ensures turns { self.new.turns ≡ self.old.turns }
+        ensures noted { self.new.was_unmade ≡ self.old.was_unmade }
+        ensures refusal { self.new.refusal ≡ self.old.refusal }
     {
         if matches!(answer, Err(OutsideErr::Failed)) {
             self.house.count_fault();
@@ -142,6 +147,8 @@ impl<H: HousePlace> LateKeeper<H> {
         ensures causes { Causes OutsideErr.Failed result (H.faults self.old.house)
             (H.faults self.new.house) }
         ensures turns { self.new.turns ≡ self.old.turns }
+        ensures noted { self.new.was_unmade ≡ self.old.was_unmade }
+        ensures refusal { self.new.refusal ≡ self.old.refusal }
     {
         let found = found_in(&mut self.kept, id);
         self.counted(found)
@@ -163,6 +170,9 @@ impl<H: HousePlace> LateKeeper<H> {
             → H.unmade self.new.house × (self.new.kept ≡ None) }
         ensures causes { Causes OutsideErr.Failed result (H.faults self.old.house)
             (H.faults self.new.house) }
+        ensures unopened { IfOk result (λ found. self.new.kept ≡ None
+            → (found ≡ None) × IsTrue self.new.was_unmade) }
+        ensures noted { IsTrue self.old.was_unmade → IsTrue self.new.was_unmade }
         ensures turns { self.new.turns ≡ self.old.turns }
     {
         match self.open_made() {
@@ -177,6 +187,7 @@ impl<H: HousePlace> LateKeeper<H> {
 
     /// Errs where an auction of that id is kept by now: another program announced it after this one
     /// was told that there is none, and what it keeps isn't to be lost.
+    #[tactic(auto, using(crate::proofs::Meanwhile::none_there, crate::proofs::Meanwhile::some_there))]
     fn refuse_known(&mut self, id: &[u8; 16]) -> Result<(), OutsideErr>
         requires { IsSome self.old.kept }
         ensures ledger { IfSome (told_by H.Kept.ledger (H.ledger self.old.house) self.old.kept)
@@ -186,6 +197,13 @@ impl<H: HousePlace> LateKeeper<H> {
             ≡ told_by H.Kept.ledger (H.ledger self.old.house) self.old.kept }
         ensures causes { Causes OutsideErr.Failed result (H.faults self.old.house)
             (H.faults self.new.house) }
+        ensures fresh { OnOk result (IfSome
+            (told_by H.Kept.ledger (H.ledger self.old.house) self.old.kept)
+            (λ ledger. map.get ledger id.now ≡ None)) }
+        ensures meanwhile { (self.new.refusal ≡ self.old.refusal)
+            ⊎ ((self.new.refusal ≡ Some Unopened.Meanwhile) × (result ≡ Err OutsideErr.Failed)
+            × IfSome (told_by H.Kept.ledger (H.ledger self.old.house) self.old.kept)
+            (λ ledger. IsSome (map.get ledger id.now))) }
         ensures turns { self.new.turns ≡ self.old.turns }
     {
         if self.ask(id)?.is_some() {
@@ -196,6 +214,7 @@ impl<H: HousePlace> LateKeeper<H> {
     }
 
     /// Keeps the auction, by the keeper that is open.
+    #[tactic(auto, using(crate::proofs::Meanwhile::done_with))]
     fn keep(&mut self, auction: Auction) -> Result<(), OutsideErr>
         requires right { IsAuction auction }
         requires open { IsSome self.old.kept }
@@ -206,6 +225,9 @@ impl<H: HousePlace> LateKeeper<H> {
             (told_by H.Kept.ledger (H.ledger self.new.house) self.new.kept) }
         ensures causes { Causes OutsideErr.Failed result (H.faults self.old.house)
             (H.faults self.new.house) }
+        ensures fresh { IsTrue self.old.was_unmade → OnOk result (IfSome
+            (told_by H.Kept.ledger (H.ledger self.old.house) self.old.kept)
+            (λ ledger. map.get ledger auction.id ≡ None)) }
         ensures turns { self.new.turns ≡ self.old.turns }
     {
         if self.was_unmade {
@@ -226,6 +248,9 @@ impl<H: HousePlace> LateKeeper<H> {
             (told_by H.Kept.ledger (H.ledger self.new.house) self.new.kept) }
         ensures causes { Causes OutsideErr.Failed result (H.faults self.old.house)
             (H.faults self.new.house) }
+        ensures fresh { IsTrue self.old.was_unmade → OnOk result (IfSome
+            (told_by H.Kept.ledger (H.ledger self.old.house) self.old.kept)
+            (λ ledger. map.get ledger auction.id ≡ None)) }
         ensures turns { self.new.turns ≡ self.old.turns }
     {
         match self.open() {
@@ -315,6 +340,9 @@ impl<H: HousePlace> Keeper for LateKeeper<H> {
         ensures turn { AfterGet self.old.turns self.new.turns }
         ensures unmade { H.unmade self.old.house → self.old.kept ≡ None
             → H.unmade self.new.house × (self.new.kept ≡ None) }
+        ensures unopened { IfOk result (λ found. self.new.kept ≡ None
+            → (found ≡ None) × IsTrue self.new.was_unmade) }
+        ensures noted { IsTrue self.old.was_unmade → IsTrue self.new.was_unmade }
         ensures causes { Causes OutsideErr.Failed result (H.faults self.old.house)
             (H.faults self.new.house) }
     {
@@ -322,7 +350,22 @@ impl<H: HousePlace> Keeper for LateKeeper<H> {
         self.find(id)
     }
 
-    fn put(&mut self, auction: Auction) -> Result<(), OutsideErr> {
+    /// In a house that was not made when this one asked, an auction that another program announced
+    /// since then stays.
+    fn put(&mut self, auction: Auction) -> Result<(), OutsideErr>
+        requires { IsAuction auction }
+        ensures ledger { IfSome (told_by H.Kept.ledger (H.ledger self.old.house) self.old.kept)
+            IsLedger }
+        ensures put { Modelled (Keeps auction result)
+            (told_by H.Kept.ledger (H.ledger self.old.house) self.old.kept)
+            (told_by H.Kept.ledger (H.ledger self.new.house) self.new.kept) }
+        ensures fresh { IsTrue self.old.was_unmade → OnOk result (IfSome
+            (told_by H.Kept.ledger (H.ledger self.old.house) self.old.kept)
+            (λ ledger. map.get ledger auction.id ≡ None)) }
+        ensures turn { AfterPut self.old.turns self.new.turns }
+        ensures causes { Causes OutsideErr.Failed result (H.faults self.old.house)
+            (H.faults self.new.house) }
+    {
         self.turns.count_put();
         self.replace(auction)
     }
