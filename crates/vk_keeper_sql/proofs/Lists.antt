@@ -12,8 +12,16 @@ use Rattle.vk_rows.proofs.Lists.{next_one}
 use Rattle.vk_keeper_sql.specs.Statements.{keep_seal, keep_terms}
 use Rattle.vk_keeper_sql.specs.Opening.{AddsTerms, first_terms}
 use Rattle.vk_keeper_sql.specs.Transactions.{Ran, RefusesRun}
+use Rattle.vk_keeper_sql.specs.Unkept.{adding}
 use Rattle.vk_keeper_sql.specs.Unopened.{StopsAmong, filling}
 use Rattle.vk_keeper_sql.specs.Writing.{AddsSeals}
+
+-- what stands before a place, at it and behind it is the whole
+with_front : {X : Type 0} (xs : List X) (i : ℕ) (x : X) → i < length xs → x ≡ get_or xs i x
+    → take i xs ++ x ∷ drop (i + 1) xs ≡ xs
+with_front xs i x within is =
+    ap (λ y. take i xs ++ y ∷ drop (i + 1) xs) is
+    ∙ (ap (λ back. take i xs ++ back) (sym (drop_more xs i x within)) ∙ take-append-drop i xs)
 
 module _ {S : Type 0} (g : Ghosts S) (id : List ℕ) where
   -- one more row is written
@@ -46,6 +54,36 @@ module _ {S : Type 0} (g : Ghosts S) (id : List ℕ) where
       subst (λ n. Ran g keep_seal (seal_row id n seal) mid new) (omega arith) last in
       subst (λ all. AddsSeals g id before all old new) (sym (next_one seals i seal within seal_is))
       (add_more before (take i seals) seal old mid new added one)
+
+  seal_behind : (before : ℕ) (front : List SealTexts) (seal : SealTexts) (back : List SealTexts)
+      (old mid new : Held S) (told : OutsideErr) → AddsSeals g id before front old mid
+      → RefusesRun g keep_seal (seal_row id (before + length front + 1) seal) mid new told
+      → StopsAmong g (adding id before (front ++ seal ∷ back)) old new told
+  seal_behind before [] seal back old mid new told added last =
+      inl (subst (λ n. RefusesRun g keep_seal (seal_row id n seal) old new told) (omega arith)
+      (subst (λ h. RefusesRun g keep_seal (seal_row id (before + 0 + 1) seal) h new told) added
+      last))
+  seal_behind before (first ∷ front) seal back old mid new told added last = inr (
+    added.0,
+    added.1,
+    seal_behind (before + 1) front seal back added.0 mid new told added.2
+        (subst (λ n. RefusesRun g keep_seal (seal_row id n seal) mid new told) (omega arith) last),
+  )
+
+  -- the row of the next seal is refused
+  pub add_stop : (before : ℕ) (seals : List SealTexts) (i : ℕ) (seal : SealTexts)
+      (old mid new : Held S) (told : OutsideErr) → i < length seals → seal ≡ get_or seals i seal
+      → AddsSeals g id before (take i seals) old mid
+      → RefusesRun g keep_seal (seal_row id (before + i + 1) seal) mid new told
+      → StopsAmong g (adding id before seals) old new told
+  add_stop before seals i seal old mid new told within seal_is added last =
+      let many : length (take i seals) ≡ i = length-take-le i seals (omega (arith, within)) in
+      let one : RefusesRun g keep_seal (seal_row id (before + length (take i seals) + 1) seal) mid
+      new told = subst (λ n. RefusesRun g keep_seal (seal_row id n seal) mid new told) (omega arith)
+      last in
+      subst (λ all. StopsAmong g (adding id before all) old new told)
+      (with_front seals i seal within seal_is)
+      (seal_behind before (take i seals) seal (drop (i + 1) seals) old mid new told added one)
 
 module _ {S : Type 0} (g : Ghosts S) where
   terms_more : (rows : List Row) (row : Row) (old mid new : Held S) → AddsTerms g rows old mid
@@ -80,9 +118,5 @@ module _ {S : Type 0} (g : Ghosts S) where
       → RefusesRun g keep_terms (first_terms (column row 0)) mid new told
       → StopsAmong g (filling rows) old new told
   terms_stop rows i row old mid new told within is added last =
-      let next : take i rows ++ row ∷ drop (i + 1) rows ≡ rows =
-      ap (λ x. take i rows ++ x ∷ drop (i + 1) rows) is
-      ∙ (ap (λ back. take i rows ++ back) (sym (drop_more rows i row within))
-      ∙ take-append-drop i rows) in
-      subst (λ all. StopsAmong g (filling all) old new told) next
+      subst (λ all. StopsAmong g (filling all) old new told) (with_front rows i row within is)
       (stop_behind (take i rows) row (drop (i + 1) rows) old mid new told added last)

@@ -7,3 +7,4 @@ pub mod Opening
 pub mod Unopened
 pub mod Reading
 pub mod Writing
+pub mod Unkept

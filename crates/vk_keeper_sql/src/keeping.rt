@@ -1,12 +1,13 @@
 //! Keeps an auction in the store.
 
-ghost use Rattle.std.specs.Prelude.{◌≡◌, ◌<◌, ◌≤◌, ◌^◌, false, length, OnOk};
+ghost use Rattle.std.specs.Prelude.{◌≡◌, ◌<◌, ◌≤◌, ◌^◌, false, length, IfErr, IsTrue, OnOk};
 ghost use Rattle.sqlite.specs.Held.{state};
 ghost use Rattle.sqlite.specs.State.{HasCleanDisk};
 ghost use Rattle.sqlite.specs.Values.{bound};
 ghost use Rattle.vk_keeper.specs.Auctions.{IsAuction};
 ghost use Rattle.vk_rows.specs.Columns.{auction_row, bits_in, terms_row, texts_of};
 ghost use Rattle.vk_keeper_sql.specs.Transactions.{CommitsAtOnce, LeavesDisk, Stays};
+ghost use Rattle.vk_keeper_sql.specs.Unkept.{IsUnkeptFor, StopsWriting};
 ghost use Rattle.vk_keeper_sql.specs.Writing.{Keeps, WritesAuction};
 
 use crate::seals::write_seals;
@@ -22,8 +23,9 @@ use vk_seq::Seq;
 const KEEP_AUCTION: &str =
     "INSERT OR REPLACE INTO auction (id, width, lanes, phase, seed, bits) VALUES (?1, ?2, ?3, ?4, ?5, ?6)";
 
-/// Keeps the auction in place of what stands under its id, in one transaction. Refused, nothing is
-/// changed.
+/// Keeps the auction in place of what stands under its id, in one transaction. Errs in a
+/// transaction, where a statement or the commit is refused, and for want of memory. Refused, nothing
+/// is changed.
 #[tactic(auto, using(crate::proofs::AtOnce::untouched_at_once))]
 pub fn replace<S: Alter>(
     alloc: Global,
@@ -33,6 +35,8 @@ pub fn replace<S: Alter>(
     requires { IsAuction auction.now }
     ensures crash { CommitsAtOnce (Keeps S.Store auction.now connection.old)
         (state S.Store connection.old) (state S.Store connection.new) result }
+    ensures refused { HasCleanDisk (state S.Store connection.new) → IfErr result
+        (IsUnkeptFor S.Store auction.now connection.old connection.new) }
 {
     if !connection.is_autocommit() {
         return Err(OutsideErr::Failed);
@@ -54,6 +58,8 @@ fn write_at_once<S: Alter>(
     requires small { auction.now.reserve < 2 ^ 40 }
     ensures crash { CommitsAtOnce (Keeps S.Store auction.now connection.old)
         (state S.Store connection.old) (state S.Store connection.new) result }
+    ensures refused { HasCleanDisk (state S.Store connection.new) → IfErr result
+        (IsUnkeptFor S.Store auction.now connection.old connection.new) }
 {
     let mut transaction = connection.transaction();
     write_rows(&mut transaction, auction, texts)?;
@@ -75,6 +81,9 @@ fn write_rows<S: Alter>(
     ensures same_reference { transaction.new.conn.ghost_name ≡ transaction.old.conn.ghost_name }
     ensures wrote { HasCleanDisk (state S.Store transaction.new.conn.now) → OnOk result
         (WritesAuction S.Store auction.now transaction.old.conn.now transaction.new.conn.now) }
+    ensures refused { HasCleanDisk (state S.Store transaction.new.conn.now)
+        → IsTrue transaction.old.conn.now.in_transaction → IfErr result
+        (StopsWriting S.Store auction.now transaction.old.conn.now transaction.new.conn.now) }
     ensures crash { LeavesDisk S.Store transaction.old.conn.now transaction.new.conn.now }
     ensures stays { Stays S.Store transaction.old.conn.now transaction.new.conn.now result }
 {

@@ -1,13 +1,15 @@
 //! Keeps the seals of an auction in the store.
 
-ghost use Rattle.std.specs.Prelude.{◌≡◌, ◌+◌, ◌≤◌, pos, [], ◌∷◌, length, OnOk};
+ghost use Rattle.std.specs.Prelude.{◌≡◌, ◌+◌, ◌≤◌, pos, [], ◌∷◌, length, IfErr, IsTrue, OnOk};
 ghost use Rattle.sqlite.specs.Held.{state};
 ghost use Rattle.sqlite.specs.State.{HasCleanDisk};
 ghost use Rattle.sqlite.specs.Values.{bound};
 ghost use Rattle.sqlite.specs.declared.types.Value.TheVariants.{Int, Blob};
 ghost use Rattle.vk_rows.specs.Columns.{seal_row};
 ghost use Rattle.vk_keeper_sql.specs.Statements.{drop_seals, keep_seal};
-ghost use Rattle.vk_keeper_sql.specs.Transactions.{LeavesDisk, Ran, Stays};
+ghost use Rattle.vk_keeper_sql.specs.Transactions.{LeavesDisk, Ran, RefusesRun, Stays};
+ghost use Rattle.vk_keeper_sql.specs.Unkept.{StopsSeals, adding};
+ghost use Rattle.vk_keeper_sql.specs.Unopened.{StopsAmong};
 ghost use Rattle.vk_keeper_sql.specs.Writing.{AddsSeals, WritesSeals};
 
 use crate::statements::{SEALS, rows_under, run};
@@ -32,6 +34,9 @@ pub fn write_seals<S: Alter>(
     ensures same_reference { transaction.new.conn.ghost_name ≡ transaction.old.conn.ghost_name }
     ensures wrote { HasCleanDisk (state S.Store transaction.new.conn.now) → OnOk result
         (WritesSeals S.Store id.now seals.now transaction.old.conn.now transaction.new.conn.now) }
+    ensures refused { HasCleanDisk (state S.Store transaction.new.conn.now)
+        → IsTrue transaction.old.conn.now.in_transaction → IfErr result
+        (StopsSeals S.Store id.now seals.now transaction.old.conn.now transaction.new.conn.now) }
     ensures crash { LeavesDisk S.Store transaction.old.conn.now transaction.new.conn.now }
     ensures stays { Stays S.Store transaction.old.conn.now transaction.new.conn.now result }
 {
@@ -53,6 +58,10 @@ fn clear_seals<S: Alter>(
     ensures ran { HasCleanDisk (state S.Store transaction.new.conn.now) → OnOk result
         (Ran S.Store drop_seals (Blob id.now ∷ Int (pos standing) ∷ []) transaction.old.conn.now
         transaction.new.conn.now) }
+    ensures refused { HasCleanDisk (state S.Store transaction.new.conn.now)
+        → IsTrue transaction.old.conn.now.in_transaction → IfErr result
+        (RefusesRun S.Store drop_seals (Blob id.now ∷ Int (pos standing) ∷ [])
+        transaction.old.conn.now transaction.new.conn.now) }
     ensures crash { LeavesDisk S.Store transaction.old.conn.now transaction.new.conn.now }
     ensures stays { Stays S.Store transaction.old.conn.now transaction.new.conn.now result }
 {
@@ -83,6 +92,10 @@ fn add_seals<S: Alter>(
     ensures added { HasCleanDisk (state S.Store transaction.new.conn.now) → OnOk result
         (AddsSeals S.Store id.now before seals.now transaction.old.conn.now
         transaction.new.conn.now) }
+    ensures refused { HasCleanDisk (state S.Store transaction.new.conn.now)
+        → IsTrue transaction.old.conn.now.in_transaction → IfErr result
+        (StopsAmong S.Store (adding id.now before seals.now) transaction.old.conn.now
+        transaction.new.conn.now) }
     ensures crash { LeavesDisk S.Store transaction.old.conn.now transaction.new.conn.now }
     ensures stays { Stays S.Store transaction.old.conn.now transaction.new.conn.now result }
 {
@@ -102,6 +115,10 @@ fn add_seal<S: Alter>(
     ensures same_reference { transaction.new.conn.ghost_name ≡ transaction.old.conn.ghost_name }
     ensures ran { HasCleanDisk (state S.Store transaction.new.conn.now) → OnOk result
         (Ran S.Store keep_seal (seal_row id.now position seal.now) transaction.old.conn.now
+        transaction.new.conn.now) }
+    ensures refused { HasCleanDisk (state S.Store transaction.new.conn.now)
+        → IsTrue transaction.old.conn.now.in_transaction → IfErr result
+        (RefusesRun S.Store keep_seal (seal_row id.now position seal.now) transaction.old.conn.now
         transaction.new.conn.now) }
     ensures crash { LeavesDisk S.Store transaction.old.conn.now transaction.new.conn.now }
     ensures stays { Stays S.Store transaction.old.conn.now transaction.new.conn.now result }

@@ -10,6 +10,7 @@ ghost use Rattle.vk_keeper_sql.specs.Opening.{Prepares};
 ghost use Rattle.vk_keeper_sql.specs.Reading.{Finds, FindsNothing};
 ghost use Rattle.vk_keeper_sql.specs.Transactions.{ChangesNothing, CommitsNothing, CommitsAtOnce};
 ghost use Rattle.vk_keeper_sql.specs.declared.errors.OpenErr.{OpenErr as Refusal};
+ghost use Rattle.vk_keeper_sql.specs.Unkept.{IsUnkeptFor};
 ghost use Rattle.vk_keeper_sql.specs.Unopened.{IsRefusedFor};
 ghost use Rattle.vk_keeper_sql.specs.Writing.{Keeps};
 
@@ -119,6 +120,8 @@ impl<S: Alter> Keeper for SqlKeeper<S> {
         requires { IsAuction auction }
         ensures crash { CommitsAtOnce (Keeps S.Store auction self.old.connection)
             (state S.Store self.old.connection) (state S.Store self.new.connection) result }
+        ensures refused { HasCleanDisk (state S.Store self.new.connection) → IfErr result
+            (IsUnkeptFor S.Store auction self.old.connection self.new.connection) }
         ensures turn { AfterPut self.old.turns self.new.turns }
         ensures causes { Causes OutsideErr.Failed result self.old.faults self.new.faults }
     {

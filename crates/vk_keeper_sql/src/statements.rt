@@ -1,6 +1,6 @@
 //! What is asked of the tables and run on them, within a transaction.
 
-ghost use Rattle.std.specs.Prelude.{◌≡◌, [], ◌∷◌, IfErr, IfOk, IsErrOf, IsTrue, OnOk};
+ghost use Rattle.std.specs.Prelude.{◌≡◌, [], ◌∷◌, IfErr, IfOk, IsTrue, OnOk};
 ghost use Rattle.sqlite.specs.Held.{state};
 ghost use Rattle.sqlite.specs.State.{HasCleanDisk};
 ghost use Rattle.sqlite.specs.Values.{bound};
@@ -37,9 +37,9 @@ pub fn rows_under<S: Alter>(
     ensures same_reference { transaction.new.conn.ghost_name ≡ transaction.old.conn.ghost_name }
     ensures rows { HasCleanDisk (state S.Store transaction.new.conn.now) → IfOk result (λ rows.
         Answers S.Store query.now (Blob id.now ∷ []) transaction.old.conn.now transaction.new.conn.now rows.items) }
-    ensures refused { HasCleanDisk (state S.Store transaction.new.conn.now)
-        → IsErrOf result OutsideErr.Failed → RefusesQuery S.Store query.now (Blob id.now ∷ [])
-        transaction.old.conn.now transaction.new.conn.now OutsideErr.Failed }
+    ensures refused { HasCleanDisk (state S.Store transaction.new.conn.now) → IfErr result
+        (RefusesQuery S.Store query.now (Blob id.now ∷ []) transaction.old.conn.now
+        transaction.new.conn.now) }
     ensures crash { LeavesDisk S.Store transaction.old.conn.now transaction.new.conn.now }
     ensures stays { Stays S.Store transaction.old.conn.now transaction.new.conn.now result }
 {

@@ -1,4 +1,5 @@
-use Rattle.std.proofs.Common.{inl, inr, rules}
+use Rattle.std.proofs.Common.{◌≡◌, Err, inl, inr, rules}
+use Rattle.vk_io.specs.declared.errors.OutsideErr.TheVariants.{Failed}
 use Rattle.vk_keeper_sql.specs.Statements.{auction_query, terms_query, seals_query}
 use Rattle.vk_keeper_sql.proofs.AtOnce.{was_clean}
 use Rattle.vk_keeper_sql.proofs.finding.rows_within.Goals as goal
@@ -18,22 +19,24 @@ returns-clause-read g c clean =
 
 pub returns-in_err-heads-clause-refused : goal.returns-in_err-heads-clause-refused
 unfolding auction_query
-returns-in_err-heads-clause-refused g c clean failed = (
-  c.rows_under.new.transaction.conn.now,
-  inl (c.rows_under.ensures.refused clean (search (rules, failed))),
-)
+returns-in_err-heads-clause-refused g c clean failed =
+    let is : c.rows_under.result ≡ Err Failed = search (rules, failed) in (
+      c.rows_under.new.transaction.conn.now,
+      inl (rw is at (c.rows_under.ensures.refused clean)),
+    )
 
 pub returns-in_err-terms-clause-refused : goal.returns-in_err-terms-clause-refused
 unfolding auction_query terms_query
 returns-in_err-terms-clause-refused g c clean failed =
-    let one = was_clean _ _ c.rows_under-2.ensures.crash clean in (
+    let one = was_clean _ _ c.rows_under-2.ensures.crash clean in
+    let is : c.rows_under-2.result ≡ Err Failed = search (rules, failed) in (
       c.rows_under.new.transaction.conn.now,
       inr (
         c.in_ok-heads.heads.items,
         c.in_ok-heads.ensures.rows one,
         (
           c.rows_under-2.new.transaction.conn.now,
-          inl (c.rows_under-2.ensures.refused clean (search (rules, failed))),
+          inl (rw is at (c.rows_under-2.ensures.refused clean)),
         ),
       ),
     )
@@ -41,7 +44,8 @@ returns-in_err-terms-clause-refused g c clean failed =
 pub returns-in_err-seals-clause-refused : goal.returns-in_err-seals-clause-refused
 unfolding auction_query terms_query seals_query
 returns-in_err-seals-clause-refused g c clean failed =
-    let two = was_clean _ _ c.rows_under-3.ensures.crash clean in (
+    let two = was_clean _ _ c.rows_under-3.ensures.crash clean in
+    let is : c.rows_under-3.result ≡ Err Failed = search (rules, failed) in (
       c.rows_under.new.transaction.conn.now,
       inr (
         c.in_ok-heads.heads.items,
@@ -53,7 +57,7 @@ returns-in_err-seals-clause-refused g c clean failed =
             c.in_ok-terms.ensures.rows two,
             (
               c.rows_under-3.new.transaction.conn.now,
-              c.rows_under-3.ensures.refused clean (search (rules, failed)),
+              rw is at (c.rows_under-3.ensures.refused clean),
             ),
           ),
         ),

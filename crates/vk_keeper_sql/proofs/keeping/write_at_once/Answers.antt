@@ -4,6 +4,7 @@ use Rattle.sqlite.specs.Held.{Held, state}
 use Rattle.sqlite.specs.State.{HasCleanDisk}
 use Rattle.vk_keeper.specs.declared.auction.Auction.{Auction}
 use Rattle.vk_keeper_sql.specs.Transactions.{CommitsAtOnce}
+use Rattle.vk_keeper_sql.specs.Unkept.{IsUnkeptFor, not_written, not_committed}
 use Rattle.vk_keeper_sql.specs.Writing.{Keeps, WritesAuction}
 use Rattle.vk_keeper_sql.proofs.AtOnce.{rolled_back, rolled_back_at_once, commit_done, commit_failed, committed_at_once, late_clean, was_clean}
 use Rattle.vk_keeper_sql.proofs.keeping.write_at_once.Goals as goal
@@ -29,9 +30,18 @@ returns-in_err-write_rows g c =
     (λ clean. rolled_back g.S.Store old mid (store last)
     (stays (was_clean _ _ end.survives clean) refl).kept (end.undone clean)) in
     let same : last ≡ c.connection-1.given.0 = search rules in
+    let told = c.in_err-write_rows.field-0.0 in
+    let is : c.from_residual.result ≡ Err told = search rules in
+    let stops = rw c.transaction-transaction.ensures.begun at c.in_err-write_rows.ensures.refused in
+    let auction = c.args.auction.now in
+    let for : HasCleanDisk (store last) → IsUnkeptFor g.S.Store auction old last told = λ clean.
+    not_written c.write_rows.new.transaction.conn.now
+    (stops (was_clean _ _ end.survives clean) refl) (end.undone clean) in
     record {
       crash = subst (λ h. CommitsAtOnce Makes (store old) (store h) c.from_residual.result)
           same whole;
+      refused = rw is
+          (subst (λ h. HasCleanDisk (store h) → IsUnkeptFor g.S.Store auction old h told) same for);
     }
 
 pub returns-in-Err : goal.returns-in-Err
@@ -55,7 +65,18 @@ returns-in-Err g c =
     commit_failed g.S.Store old mid (store last) c.in-Err.error step.kept step.inside
     (c.in-Err.ensures.err clean)) in
     let same : last ≡ c.connection-2-1.given.0 = search rules in
-    record { crash = subst (λ h. CommitsAtOnce Makes (store old) (store h) refused) same whole }
+    let auction = c.args.auction.now in
+    let told = c.refused_statement.result in
+    let for : HasCleanDisk (store last) → IsUnkeptFor g.S.Store auction old last told = λ clean.
+    not_committed c.write_rows.new.transaction.conn.now c.in-Err.error
+    (rw c.transaction-transaction.ensures.begun at
+    (c.in_ok-write_rows.ensures.wrote (late_clean _ _ _ end.survives clean)))
+    (c.in-Err.ensures.err clean) c.refused_statement.ensures in
+    record {
+      crash = subst (λ h. CommitsAtOnce Makes (store old) (store h) refused) same whole;
+      refused = subst (λ h. HasCleanDisk (store h) → IsUnkeptFor g.S.Store auction old h told) same
+          for;
+    }
 
 pub returns-in-Ok : goal.returns-in-Ok
 returns-in-Ok g c =
@@ -73,4 +94,7 @@ returns-in-Ok g c =
     end.survives (λ clean. (c.in-Ok.ensures.ok clean).1.committed_is)
     (λ clean. commit_done mid (store last) (c.in-Ok.ensures.ok clean).1) (λ clean. tt) in
     let same : last ≡ c.connection-2-1.given.0 = search rules in
-    record { crash = subst (λ h. CommitsAtOnce Makes (store old) (store h) (Ok tt)) same whole }
+    record {
+      crash = subst (λ h. CommitsAtOnce Makes (store old) (store h) (Ok tt)) same whole;
+      refused = λ clean. tt;
+    }

@@ -1,11 +1,11 @@
-use Rattle.std.proofs.Common.{◌∙◌, arith}
+use Rattle.std.proofs.Common.{◌≡◌, ◌∙◌, Err, arith, rules}
 use Rattle.sqlite.specs.Held.{state}
 use Rattle.sqlite.specs.State.{HasCleanDisk}
 use Rattle.sqlite.proofs.InsideLemmas.{keeps_then}
 use Rattle.sqlite.proofs.StateLemmas.{survives_then}
 use Rattle.vk_keeper_sql.proofs.AtOnce.{was_clean}
 use Rattle.vk_keeper_sql.proofs.Inside.{stops_then}
-use Rattle.vk_keeper_sql.proofs.Lists.{add_next}
+use Rattle.vk_keeper_sql.proofs.Lists.{add_next, add_stop}
 use Rattle.vk_keeper_sql.proofs.seals.add_seals.Goals as goal
 
 pub loop-i-preserved : goal.loop-i-preserved
@@ -42,3 +42,12 @@ pub returns-clause-stays : goal.returns-clause-stays
 returns-clause-stays g c clean inside =
     let kept = c.loop-i.invariant.stays clean inside in
     record { kept = kept.0; inside = kept.1 }
+
+pub returns-in_err-add_seal-clause-refused : goal.returns-in_err-add_seal-clause-refused
+returns-in_err-add_seal-clause-refused g c clean inside =
+    let is : c.from_residual.result ≡ Err c.in_err-add_seal.field-0.0 = search rules in
+    let was = was_clean _ _ c.add_seal.ensures.crash clean in
+    let before = c.loop-i.invariant.stays was inside in
+    rw is (add_stop g.S.Store c.args.id.now c.args.before c.args.seals.now c.loop-i.i
+    c.index-seals-i.result _ _ _ _ c.loop-i-test.true c.index-seals-i.is
+    (c.loop-i.invariant.added was) (c.in_err-add_seal.ensures.refused clean before.1))
