@@ -1,9 +1,10 @@
-// What several of these tests make: residues, and bids as inputs.
+// What several of these tests make and compare: residues, bids as inputs, and plans with the values
+// of their wires.
 ghost use Rattle.std.specs.Prelude.{◌≡◌, ◌<◌, ◌≤◌, ◌^◌, All, IfOk, IfSome, length};
 
 use std::alloc::Global;
-use std::test::Fail;
-use vk_plan::Plan;
+use std::process::Abort;
+use vk_plan::{Circuit, Plan};
 use vk_residue::{NoMemory, Residue};
 
 /// The residue of a number, 0 where it is not below the modulus.
@@ -42,7 +43,7 @@ pub fn inputs_of(alloc: Global, bids: &[u64], width: u32) -> Result<Option<Vec<R
 }
 
 /// Whether each row of the plan is 0 on the values.
-pub fn rows_are_zero(plan: &Plan, values: &[Residue]) -> bool
+fn rows_are_zero(plan: &Plan, values: &[Residue]) -> bool
     requires { length values.now ≡ length plan.now.kinds }
 {
     for row in 0..plan.rows() {
@@ -53,14 +54,73 @@ pub fn rows_are_zero(plan: &Plan, values: &[Residue]) -> bool
     true
 }
 
-/// How many wires and rows the plan has, where the values are one for each wire and each row is 0
-/// on them.
-pub fn counts_where_zero(plan: &Plan, values: &[Residue]) -> Result<(u32, u32), Fail> {
-    if values.len() != plan.wires() as usize {
-        return Err("not one value for each wire".into());
+/// What a plan and the values of its wires are to be: so many wires and rows, and from that wire on
+/// these values.
+#[derive(Clone, Copy)]
+pub struct Expected<'a> {
+    pub wires: u32,
+    pub rows: u32,
+    pub from: usize,
+    pub values: &'a [u64],
+}
+
+/// The values are one for each wire, each row is 0 on them, and all is as it is expected. What is
+/// tried is borrowed: nothing is dropped where an assertion ends it, and so it is proved fast.
+pub fn check(rt: &impl Abort, plan: &Plan, values: &[Residue], expected: &Expected<'_>) {
+    assert!(rt; plan.wires() == expected.wires);
+    assert!(rt; plan.rows() == expected.rows);
+    assert!(rt; values.len() == plan.wires() as usize);
+    assert!(rt; rows_are_zero(plan, values));
+    assert!(rt; have(values, expected.from, expected.values));
+}
+
+/// Whether the values from that place on begin with these numbers.
+pub fn have(values: &[Residue], from: usize, numbers: &[u64]) -> bool {
+    match values.get(from..) {
+        Some(rest) => match rest.get(..numbers.len()) {
+            Some(part) => are(part, numbers),
+            None => false,
+        },
+        None => false,
     }
-    if !rows_are_zero(plan, values) {
-        return Err("a row is not 0".into());
+}
+
+/// The plan of the circuit and the values that it is filled with are as they are expected.
+pub fn try_circuit<C: Circuit>(
+    rt: &impl Abort,
+    alloc: Global,
+    circuit: &C,
+    inputs: &[Residue],
+    expected: &Expected<'_>,
+) -> Result<(), NoMemory>
+    requires { C.claim circuit.now inputs.now }
+{
+    let plan = circuit.plan(alloc)?;
+    let values = circuit.fill(alloc, inputs)?;
+    check(rt, &plan, values.as_slice(), expected);
+    Ok(())
+}
+
+/// What a row comes to where the first wires have these values and the others have 0; 0 where the
+/// plan has no such row, or more than 81 wires.
+pub fn row_on(plan: &Plan, row: u32, numbers: &[u64]) -> u64
+    requires { length numbers.now ≤ 81 }
+{
+    let wires = plan.wires() as usize;
+    if wires > 81 || row >= plan.rows() {
+        return 0;
     }
-    Ok((plan.wires(), plan.rows()))
+    let values = padded(numbers);
+    plan.row(row).value(&values[..wires]).get()
+}
+
+/// The numbers as residues, with zeros behind them.
+fn padded(numbers: &[u64]) -> [Residue; 81]
+    requires { length numbers.now ≤ 81 }
+{
+    let mut values = [Residue::ZERO; 81];
+    for place in 0..numbers.len() {
+        values[place] = residue_or_zero(numbers[place]);
+    }
+    values
 }

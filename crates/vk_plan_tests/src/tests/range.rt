@@ -5,10 +5,9 @@ ghost use Rattle.vk_range.specs.Sets.{plus};
 ghost use Rattle.vk_range.specs.Forms.{difference_form};
 ghost use Rattle.vk_range.specs.Ranges.{AreRanges, AreOfWidth};
 
-use super::numbers::{are, residue_or_zero, rows_are_zero};
+use super::numbers::{Expected, are, check, have, residue_or_zero};
 use std::alloc::Global;
 use std::process::Abort;
-use std::test::Fail;
 use vk_plan::{Form, Plan, Relation, Term, add_and_fill};
 use vk_range::{Copied, Equal, InRange, Ranges, SelectedIs, SumIs, difference};
 use vk_residue::{NoMemory, Residue};
@@ -32,10 +31,7 @@ fn wire_form(alloc: Global, wire: u32) -> Result<Form, NoMemory>
 fn three_wires(alloc: Global) -> Result<Seq<u32>, NoMemory>
     ensures { IfOk result (λ wires. wires ≡ 0 ∷ 1 ∷ 2 ∷ []) }
 {
-    let mut wires = Vec::new(alloc);
-    wires.push(0)?;
-    wires.push(1)?;
-    wires.push(2)?;
+    let wires = Vec::from_array(alloc, [0, 1, 2])?;
     Ok(Seq::from_vec(wires))
 }
 
@@ -58,36 +54,54 @@ fn range_values(alloc: Global, width: u32, number: u64) -> Result<Option<Vec<Res
     Ok(Some(values))
 }
 
-/// Whether the number and its pairs are these.
-fn has_range(alloc: Global, width: u32, number: u64, numbers: &[u64]) -> Result<bool, Fail>
-    requires some { 1 ≤ width }
-    requires most { width ≤ 40 }
-{
-    let values = range_values(alloc, width, number)?.ok_or("of the width")?;
-    Ok(are(values.as_slice(), numbers))
+/// The values of the first wires and what was filled in behind them; none where this can't be; or
+/// want of memory.
+type Filled = Result<Option<Vec<Residue>>, NoMemory>;
+
+/// Whether all values are these numbers.
+fn is_filled(filled: Filled, numbers: &[u64]) -> bool {
+    match filled {
+        Ok(Some(values)) => are(values.as_slice(), numbers),
+        _ => false,
+    }
+}
+
+/// Whether the values from that place on begin with these numbers.
+fn is_filled_from(filled: Filled, from: usize, numbers: &[u64]) -> bool {
+    match filled {
+        Ok(Some(values)) => have(values.as_slice(), from, numbers),
+        _ => false,
+    }
+}
+
+fn is_not_filled(filled: Filled) -> bool {
+    matches!(filled, Ok(None))
+}
+
+/// How many values there are, 0 where there are none.
+fn count_of(filled: Filled) -> usize {
+    match filled {
+        Ok(Some(values)) => values.len(),
+        _ => 0,
+    }
 }
 
 #[test]
-fn a_range_is_filled_at_its_ends(rt: HostRuntime) -> Result<(), Fail> {
-    assert!(rt; has_range(rt.alloc(), 1, 0, &[0; 2])?);
-    assert!(rt; has_range(rt.alloc(), 1, 1, &[1; 2])?);
-    assert!(rt; has_range(rt.alloc(), 4, 0, &[0; 5])?);
-    assert!(rt; has_range(rt.alloc(), 4, 15, &[15, 1, 2, 4, 8])?);
-    assert!(rt; has_range(rt.alloc(), 40, 0, &[0; 41])?);
-    let wide = range_values(rt.alloc(), 40, 1099511627775)?.ok_or("of the width")?;
-    assert!(rt; wide.len() == 41);
-    assert!(rt; wide[40].get() == 549755813888);
-    assert!(rt; range_values(rt.alloc(), 40, 1099511627776)?.is_none());
-    Ok(())
+fn a_range_is_filled_at_its_ends(rt: HostRuntime) {
+    let alloc = rt.alloc();
+    assert!(rt; is_filled(range_values(alloc, 1, 0), &[0; 2]));
+    assert!(rt; is_filled(range_values(alloc, 1, 1), &[1; 2]));
+    assert!(rt; is_filled(range_values(alloc, 4, 0), &[0; 5]));
+    assert!(rt; is_filled(range_values(alloc, 4, 15), &[15, 1, 2, 4, 8]));
+    assert!(rt; is_filled(range_values(alloc, 40, 0), &[0; 41]));
+    assert!(rt; count_of(range_values(alloc, 40, 1099511627775)) == 41);
+    assert!(rt; is_filled_from(range_values(alloc, 40, 1099511627775), 40, &[549755813888]));
+    assert!(rt; is_not_filled(range_values(alloc, 40, 1099511627776)));
 }
 
 /// Three numbers, and behind them the selectors against a value at width 4 and their sets. None
 /// where no place may be selected.
-fn selection_of(
-    alloc: Global,
-    numbers: [u64; 3],
-    value: u64,
-) -> Result<Option<Vec<Residue>>, NoMemory> {
+fn selection_of(alloc: Global, numbers: [u64; 3], value: u64) -> Filled {
     let [first, second, third] = numbers;
     let mut values = Vec::new(alloc);
     values.push(residue_or_zero(first))?;
@@ -105,60 +119,46 @@ fn selection_of(
     Ok(Some(values))
 }
 
-/// The selectors alone.
-fn selectors_of(alloc: Global, numbers: [u64; 3], value: u64) -> Result<[u64; 3], Fail> {
-    let values = selection_of(alloc, numbers, value)?.ok_or("no place")?;
-    match values.as_slice() {
-        [_, _, _, first, second, third, ..] => Ok([first.get(), second.get(), third.get()]),
-        _ => Ok([9, 9, 9]),
-    }
+/// Whether the selectors are these.
+fn selects(alloc: Global, numbers: [u64; 3], value: u64, selectors: &[u64; 3]) -> bool {
+    is_filled_from(selection_of(alloc, numbers, value), 3, selectors)
 }
 
 #[test]
-fn the_first_place_that_serves_is_selected(rt: HostRuntime) -> Result<(), Fail> {
-    assert!(rt; selectors_of(rt.alloc(), [9, 7, 4], 9)? == [1, 0, 0]);
-    assert!(rt; selectors_of(rt.alloc(), [7, 9, 4], 9)? == [0, 1, 0]);
-    assert!(rt; selectors_of(rt.alloc(), [7, 4, 9], 9)? == [0, 0, 1]);
-    assert!(rt; selectors_of(rt.alloc(), [7, 9, 9], 9)? == [0, 1, 0]);
-    assert!(rt; selection_of(rt.alloc(), [3, 4, 5], 9)?.is_none());
-    let values = selection_of(rt.alloc(), [9, 7, 4], 9)?.ok_or("no place")?;
+fn the_first_place_that_serves_is_selected(rt: HostRuntime) {
+    let alloc = rt.alloc();
+    assert!(rt; selects(alloc, [9, 7, 4], 9, &[1, 0, 0]));
+    assert!(rt; selects(alloc, [7, 9, 4], 9, &[0, 1, 0]));
+    assert!(rt; selects(alloc, [7, 4, 9], 9, &[0, 0, 1]));
+    assert!(rt; selects(alloc, [7, 9, 9], 9, &[0, 1, 0]));
+    assert!(rt; is_not_filled(selection_of(alloc, [3, 4, 5], 9)));
     let sets = [9, 7, 4, 1, 0, 0, 0, 0, 0, 0, 1, 0, 4, 8, 0, 2, 0, 8];
-    assert!(rt; are(values.as_slice(), &sets));
-    Ok(())
+    assert!(rt; is_filled(selection_of(alloc, [9, 7, 4], 9), &sets));
 }
 
-#[test]
-fn equal_wires_hold(rt: HostRuntime) -> Result<(), Fail> {
-    let mut plan = Plan::new(rt.alloc(), 2)?;
+/// Two inputs that are 5 and equal, and then a row that the second is 0: how many wires, rows and
+/// values there are, and how many rows then.
+fn equal_wires(alloc: Global) -> Result<(u32, u32, usize, u32), NoMemory> {
+    let mut plan = Plan::new(alloc, 2)?;
     let five = residue_or_zero(5);
     let _bound = five.get();
-    let mut values = Vec::new(rt.alloc());
-    values.push(five)?;
-    values.push(five)?;
-    add_and_fill(
-        rt.alloc(),
-        &Equal { left: 0, right: 1 },
-        &mut plan,
-        &mut values,
-    )?;
-    assert!(rt; (plan.wires(), plan.rows(), values.len()) == (2, 1, 2));
-    SumIs {
-        form: wire_form(rt.alloc(), 1)?,
-    }
-    .add(rt.alloc(), &mut plan)?;
-    assert!(rt; plan.rows() == 2);
-    Ok(())
+    let mut values = Vec::from_array(alloc, [five, five])?;
+    add_and_fill(alloc, &Equal { left: 0, right: 1 }, &mut plan, &mut values)?;
+    let (wires, rows) = (plan.wires(), plan.rows());
+    let form = wire_form(alloc, 1)?;
+    SumIs { form }.add(alloc, &mut plan)?;
+    Ok((wires, rows, values.len(), plan.rows()))
+}
+
+#[test]
+fn equal_wires_hold(rt: HostRuntime) {
+    assert!(rt; matches!(equal_wires(rt.alloc()), Ok((2, 1, 2, 2))));
 }
 
 fn five_wires(alloc: Global) -> Result<Seq<u32>, NoMemory>
     ensures { IfOk result (λ wires. wires ≡ 0 ∷ 1 ∷ 2 ∷ 3 ∷ 4 ∷ []) }
 {
-    let mut wires = Vec::new(alloc);
-    wires.push(0)?;
-    wires.push(1)?;
-    wires.push(2)?;
-    wires.push(3)?;
-    wires.push(4)?;
+    let wires = Vec::from_array(alloc, [0, 1, 2, 3, 4])?;
     Ok(Seq::from_vec(wires))
 }
 
@@ -174,9 +174,25 @@ fn five_values(alloc: Global, numbers: [u64; 5]) -> Result<Vec<Residue>, NoMemor
     Ok(values)
 }
 
+/// A plan and the values of its wires; none where what it says isn't true of them; or want of
+/// memory.
+type Made = Result<Option<(Plan, Vec<Residue>)>, NoMemory>;
+
+/// The plan and the values are as expected.
+fn check_made(rt: &impl Abort, made: Made, expected: &Expected<'_>) {
+    match made {
+        Ok(Some((plan, values))) => check(rt, &plan, values.as_slice(), expected),
+        _ => panic!(rt; "not made"),
+    }
+}
+
+fn is_refused(made: Made) -> bool {
+    matches!(made, Ok(None))
+}
+
 /// Five inputs, of which the second and the last are equal, and their values. None where they are
 /// not.
-fn equal_inputs(alloc: Global, numbers: [u64; 5]) -> Result<Option<(Plan, Vec<Residue>)>, NoMemory>
+fn equal_inputs(alloc: Global, numbers: [u64; 5]) -> Made
     ensures holds { IfOk result (λ found. IfSome found (λ made. Holds made.0 made.1.items)) }
 {
     let mut plan = Plan::new(alloc, 5)?;
@@ -189,22 +205,18 @@ fn equal_inputs(alloc: Global, numbers: [u64; 5]) -> Result<Option<(Plan, Vec<Re
 }
 
 /// Five inputs and a copy of the fourth, and their values.
-fn copied_input(alloc: Global, numbers: [u64; 5]) -> Result<(Plan, Vec<Residue>), NoMemory>
-    ensures holds { IfOk result (λ made. Holds made.0 made.1.items) }
+fn copied_input(alloc: Global, numbers: [u64; 5]) -> Made
+    ensures holds { IfOk result (λ found. IfSome found (λ made. Holds made.0 made.1.items)) }
 {
     let mut plan = Plan::new(alloc, 5)?;
     let mut values = five_values(alloc, numbers)?;
     add_and_fill(alloc, &Copied { wire: 3 }, &mut plan, &mut values)?;
-    Ok((plan, values))
+    Ok(Some((plan, values)))
 }
 
 /// Five inputs, of which one is selected against a value at width 8, and the values of all wires.
 /// None where no place may be selected.
-fn selected_input(
-    alloc: Global,
-    numbers: [u64; 5],
-    value: u64,
-) -> Result<Option<(Plan, Vec<Residue>)>, NoMemory>
+fn selected_input(alloc: Global, numbers: [u64; 5], value: u64) -> Made
     ensures holds { IfOk result (λ found. IfSome found (λ made. Holds made.0 made.1.items)) }
 {
     let mut plan = Plan::new(alloc, 5)?;
@@ -253,7 +265,7 @@ fn are_of_width(ranges: &Ranges, values: &[Residue]) -> bool
 
 /// Five inputs with these ranges, and the values of all wires. None where a form is not of the
 /// width.
-fn ranged_inputs(alloc: Global, numbers: [u64; 5]) -> Result<Option<(Plan, Vec<Residue>)>, NoMemory>
+fn ranged_inputs(alloc: Global, numbers: [u64; 5]) -> Made
     ensures holds { IfOk result (λ found. IfSome found (λ made. Holds made.0 made.1.items)) }
 {
     let mut plan = Plan::new(alloc, 5)?;
@@ -267,52 +279,59 @@ fn ranged_inputs(alloc: Global, numbers: [u64; 5]) -> Result<Option<(Plan, Vec<R
 }
 
 #[test]
-fn three_forms_of_width_3_are_filled(rt: HostRuntime) -> Result<(), Fail> {
-    let (plan, values) = ranged_inputs(rt.alloc(), [5, 2, 9, 6, 70])?.ok_or("of the width")?;
-    assert!(rt; (plan.wires(), plan.rows()) == (14, 3));
+fn three_forms_of_width_3_are_filled(rt: HostRuntime) {
+    let alloc = rt.alloc();
     // 5 = 1 + 4, 2 = 2, and 9 - 6 = 3 = 1 + 2
-    let filled = [5, 2, 9, 6, 70, 1, 0, 4, 0, 2, 0, 1, 2, 0];
-    assert!(rt; are(values.as_slice(), &filled));
-    assert!(rt; rows_are_zero(&plan, values.as_slice()));
-    assert!(rt; ranged_inputs(rt.alloc(), [5, 8, 9, 6, 70])?.is_none());
-    assert!(rt; ranged_inputs(rt.alloc(), [5, 2, 6, 9, 70])?.is_none());
-    Ok(())
+    let expected = Expected {
+        wires: 14,
+        rows: 3,
+        from: 0,
+        values: &[5, 2, 9, 6, 70, 1, 0, 4, 0, 2, 0, 1, 2, 0],
+    };
+    check_made(&rt, ranged_inputs(alloc, [5, 2, 9, 6, 70]), &expected);
+    assert!(rt; is_refused(ranged_inputs(alloc, [5, 8, 9, 6, 70])));
+    assert!(rt; is_refused(ranged_inputs(alloc, [5, 2, 6, 9, 70])));
 }
 
 #[test]
-fn five_wires_of_width_8_are_filled(rt: HostRuntime) -> Result<(), Fail> {
-    try_equal(&rt, rt.alloc())?;
-    try_copied(&rt, rt.alloc())?;
-    try_selected(&rt, rt.alloc())
+fn five_wires_of_width_8_are_filled(rt: HostRuntime) {
+    try_equal(&rt, rt.alloc());
+    try_copied(&rt, rt.alloc());
+    try_selected(&rt, rt.alloc());
 }
 
 const NUMBERS: [u64; 5] = [200, 13, 250, 250, 13];
 
-fn try_equal(rt: &impl Abort, alloc: Global) -> Result<(), Fail> {
-    let (plan, values) = equal_inputs(alloc, NUMBERS)?.ok_or("not equal")?;
-    assert!(rt; (plan.wires(), plan.rows()) == (5, 1));
-    assert!(rt; are(values.as_slice(), &NUMBERS));
-    assert!(rt; rows_are_zero(&plan, values.as_slice()));
-    assert!(rt; equal_inputs(alloc, [200, 13, 250, 250, 7])?.is_none());
-    Ok(())
+fn try_equal(rt: &impl Abort, alloc: Global) {
+    let expected = Expected {
+        wires: 5,
+        rows: 1,
+        from: 0,
+        values: &NUMBERS,
+    };
+    check_made(rt, equal_inputs(alloc, NUMBERS), &expected);
+    assert!(rt; is_refused(equal_inputs(alloc, [200, 13, 250, 250, 7])));
 }
 
-fn try_copied(rt: &impl Abort, alloc: Global) -> Result<(), Fail> {
-    let (plan, values) = copied_input(alloc, NUMBERS)?;
-    assert!(rt; (plan.wires(), plan.rows()) == (6, 1));
-    assert!(rt; values[5].get() == 250);
-    assert!(rt; rows_are_zero(&plan, values.as_slice()));
-    Ok(())
+fn try_copied(rt: &impl Abort, alloc: Global) {
+    let expected = Expected {
+        wires: 6,
+        rows: 1,
+        from: 5,
+        values: &[250],
+    };
+    check_made(rt, copied_input(alloc, NUMBERS), &expected);
 }
 
-fn try_selected(rt: &impl Abort, alloc: Global) -> Result<(), Fail> {
-    let (plan, values) = selected_input(alloc, NUMBERS, 250)?.ok_or("no place")?;
-    assert!(rt; (plan.wires(), plan.rows()) == (50, 6));
-    let filled = [
-        200, 13, 250, 250, 13, 0, 0, 1, 0, 0, 1, 0, 4, 8, 0, 0, 64, 128, 0, 2, 0, 0, 16, 0, 0, 0,
-        0, 0, 0, 0, 0, 0, 0, 0, 1, 2, 4, 8, 16, 32, 64, 128, 0, 2, 0, 0, 16, 0, 0, 0,
-    ];
-    assert!(rt; are(values.as_slice(), &filled));
-    assert!(rt; rows_are_zero(&plan, values.as_slice()));
-    Ok(())
+fn try_selected(rt: &impl Abort, alloc: Global) {
+    let expected = Expected {
+        wires: 50,
+        rows: 6,
+        from: 0,
+        values: &[
+            200, 13, 250, 250, 13, 0, 0, 1, 0, 0, 1, 0, 4, 8, 0, 0, 64, 128, 0, 2, 0, 0, 16, 0, 0,
+            0, 0, 0, 0, 0, 0, 0, 0, 0, 1, 2, 4, 8, 16, 32, 64, 128, 0, 2, 0, 0, 16, 0, 0, 0,
+        ],
+    };
+    check_made(rt, selected_input(alloc, NUMBERS, 250), &expected);
 }

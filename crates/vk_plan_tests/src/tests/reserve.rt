@@ -1,11 +1,10 @@
 // Sales of three bids of 32 bits, under three reserves and without one, each shown by the plan of
 // its board.
-ghost use Rattle.std.specs.Prelude.{◌≤◌, length};
-
-use super::numbers::{counts_where_zero, inputs_of};
+use super::numbers::{Expected, inputs_of, try_circuit};
 use std::alloc::Global;
-use std::test::Fail;
-use vk_plan::Circuit;
+use std::panic::Expect;
+use std::process::Abort;
+use vk_residue::NoMemory;
 use vk_vickrey::{BoardPlan, Sale, sale_of};
 
 const BIDS: [u64; 3] = [3000000000, 4000000000, 3500000000];
@@ -14,43 +13,58 @@ fn sold(position: u32, price: u64) -> Sale {
     Sale::Sold { position, price }
 }
 
-/// How many wires and rows the plan of the bids has, where the honest values hold for it.
-fn shown(alloc: Global, version: u32, bids: &[u64], reserve: u64) -> Result<(u32, u32), Fail>
-    requires some { 1 ≤ length bids.now }
-    requires most { length bids.now ≤ 64 }
-{
-    let inputs = inputs_of(alloc, bids, 32)?.ok_or("of the width")?;
-    let sale = sale_of(bids, reserve);
-    let circuit = BoardPlan::of(version, bids.len() as u32, 32, reserve, sale).ok_or(
-        "within the limits",
-    )?;
-    let values = circuit.fill(alloc, inputs.as_slice())?;
-    let plan = circuit.plan(alloc)?;
-    counts_where_zero(&plan, values.as_slice())
+/// Whether the second bid is sold under that reserve, at this price.
+fn sells(reserve: u64, price: u64) -> bool {
+    sale_of(&BIDS, reserve) == sold(2, price)
+}
+
+/// The plan of the bids has so many wires and rows, and the honest values hold for it.
+fn try_sale(
+    rt: &impl Abort,
+    alloc: Global,
+    version: u32,
+    reserve: u64,
+    wires: u32,
+    rows: u32,
+) -> Result<(), NoMemory> {
+    let inputs = inputs_of(alloc, &BIDS, 32)?.expect(rt, "of the width");
+    let sale = sale_of(&BIDS, reserve);
+    let circuit = BoardPlan::of(version, 3, 32, reserve, sale).expect(rt, "within the limits");
+    let expected = Expected {
+        wires,
+        rows,
+        from: 0,
+        values: &[],
+    };
+    try_circuit(rt, alloc, &circuit, inputs.as_slice(), &expected)
 }
 
 #[test]
-fn sales_are_shown_at_the_reserve_above_it_and_unsold(rt: HostRuntime) -> Result<(), Fail> {
-    assert!(rt; sale_of(&BIDS, 3600000000) == sold(2, 3600000000));
-    assert!(rt; shown(rt.alloc(), 2, &BIDS, 3600000000)? == (262, 11));
-    assert!(rt; sale_of(&BIDS, 3400000000) == sold(2, 3500000000));
-    assert!(rt; shown(rt.alloc(), 2, &BIDS, 3400000000)? == (296, 13));
-    assert!(rt; sale_of(&BIDS, 4000000000) == sold(2, 4000000000));
+fn sales_are_shown_at_the_reserve_above_it_and_unsold(rt: HostRuntime) {
+    assert!(rt; sells(3600000000, 3600000000));
+    assert!(rt; sells(3400000000, 3500000000));
+    assert!(rt; sells(4000000000, 4000000000));
     assert!(rt; sale_of(&BIDS, 4000000001) == Sale::Unsold);
-    assert!(rt; shown(rt.alloc(), 2, &BIDS, 4000000001)? == (198, 9));
-    assert!(rt; sale_of(&BIDS, 0) == sold(2, 3500000000));
-    assert!(rt; shown(rt.alloc(), 1, &BIDS, 0)? == (296, 13));
-    Ok(())
+    assert!(rt; sells(0, 3500000000));
+    assert!(rt; try_sale(&rt, rt.alloc(), 2, 3600000000, 262, 11).is_ok());
+    assert!(rt; try_sale(&rt, rt.alloc(), 2, 3400000000, 296, 13).is_ok());
+    assert!(rt; try_sale(&rt, rt.alloc(), 2, 4000000001, 198, 9).is_ok());
+    assert!(rt; try_sale(&rt, rt.alloc(), 1, 0, 296, 13).is_ok());
+}
+
+/// Whether a board of bids of 32 bits may say this.
+fn may_be(version: u32, seals: u32, reserve: u64, sale: Sale) -> bool {
+    BoardPlan::of(version, seals, 32, reserve, sale).is_some()
 }
 
 #[test]
 fn a_board_that_cannot_be_is_refused(rt: HostRuntime) {
-    assert!(rt; BoardPlan::of(3, 3, 32, 0, sold(2, 9)).is_none());
-    assert!(rt; BoardPlan::of(1, 3, 32, 9, sold(2, 9)).is_none());
-    assert!(rt; BoardPlan::of(1, 3, 32, 0, Sale::Unsold).is_none());
-    assert!(rt; BoardPlan::of(2, 3, 32, 0, Sale::Unsold).is_none());
-    assert!(rt; BoardPlan::of(2, 3, 32, 4294967296, Sale::Unsold).is_none());
-    assert!(rt; BoardPlan::of(2, 3, 32, 10, sold(2, 9)).is_none());
-    assert!(rt; BoardPlan::of(2, 1, 32, 9, sold(1, 10)).is_none());
-    assert!(rt; BoardPlan::of(2, 1, 32, 9, sold(1, 9)).is_some());
+    assert!(rt; !may_be(3, 3, 0, sold(2, 9)));
+    assert!(rt; !may_be(1, 3, 9, sold(2, 9)));
+    assert!(rt; !may_be(1, 3, 0, Sale::Unsold));
+    assert!(rt; !may_be(2, 3, 0, Sale::Unsold));
+    assert!(rt; !may_be(2, 3, 4294967296, Sale::Unsold));
+    assert!(rt; !may_be(2, 3, 10, sold(2, 9)));
+    assert!(rt; !may_be(2, 1, 9, sold(1, 10)));
+    assert!(rt; may_be(2, 1, 9, sold(1, 9)));
 }
