@@ -1,16 +1,24 @@
-// What several of these tests make: residues, openings and bids as inputs; the halves of accepted
-// lanes; and the commitments of a bid of 5 by seat 7 and of a copy of it, as an independent
-// implementation made them.
+// What several of these tests make: residues, openings and bids as inputs; a plan of two wires and a
+// lane of it; the halves of accepted lanes; and the commitments of a bid of 5 by seat 7 and of a copy
+// of it, as an independent implementation made them.
 ghost use Rattle.std.specs.Prelude.{◌≡◌, ◌<◌, ◌≤◌, ◌^◌, All, IfOk, IfSome, IsTrue, length};
+ghost use Rattle.vk_plan.specs.Forms.{NamesBelow};
+ghost use Rattle.vk_plan.specs.Plans.{HasWeight};
 ghost use Rattle.vk_row.specs.Lanes.{HasCounts};
 
 use std::alloc::Global;
-use std::test::Fail;
+use std::panic::Expect;
+use std::process::Abort;
 use vk_commit::Opening;
-use vk_plan::Plan;
+use vk_plan::{Form, Plan, Term, WireKind};
 use vk_residue::{NoMemory, Residue};
 use vk_row::{LaneCase, check_lane};
+use vk_seq::Seq;
 use vk_wire::{Shown, WireCom};
+
+pub const AUCTION: [u8; 16] = [0, 1, 2, 3, 4, 5, 6, 7, 8, 9, 10, 11, 12, 13, 14, 15];
+
+pub const MINUS_ONE: u64 = 2305843009213693950;
 
 pub const BID: WireCom = WireCom {
     first: [
@@ -38,20 +46,20 @@ pub const COPY: WireCom = WireCom {
     ],
 };
 
-/// The residue of a number. An error where it is not below the modulus.
-pub fn residue(number: u64) -> Result<Residue, Fail>
-    ensures { IfOk result (λ value. value ≡ number) }
-{
-    Ok(Residue::new(number).ok_or("not below the modulus")?)
+/// The residue of a number, 0 where it is not below the modulus.
+pub fn residue(number: u64) -> Residue {
+    Residue::new(number).unwrap_or(Residue::ZERO)
 }
 
-pub fn opening(key: [u8; 32], number: u64) -> Result<Opening, Fail> {
-    let value = residue(number)?;
-    Ok(Opening { key, value })
+pub fn opening(key: [u8; 32], number: u64) -> Opening {
+    Opening {
+        key,
+        value: residue(number),
+    }
 }
 
-pub fn half(key: u8, number: u64) -> Result<Shown, Fail> {
-    Ok(Shown::Half(opening([key; 32], number)?))
+pub fn half(key: u8, number: u64) -> Shown {
+    Shown::Half(opening([key; 32], number))
 }
 
 /// The bids as residues. None where one is not of the width.
@@ -71,19 +79,88 @@ pub fn inputs_of(alloc: Global, bids: &[u64], width: u32) -> Result<Option<Vec<R
     Ok(Some(inputs))
 }
 
-/// The halves of an accepted lane.
+/// The first of two wires less the second, plus a constant.
+pub fn difference(alloc: Global, constant: u64) -> Result<Form, NoMemory>
+    ensures { IfOk result (λ form. NamesBelow 2 form.terms) }
+{
+    let first = Term {
+        wire: 0,
+        factor: Residue::ONE,
+    };
+    let second = Term {
+        wire: 1,
+        factor: residue(MINUS_ONE),
+    };
+    let terms = Vec::from_array(alloc, [first, second])?;
+    Ok(Form {
+        terms: Seq::from_vec(terms),
+        constant: residue(constant),
+    })
+}
+
+/// One input, a wire of the kind, and the row that the two have one value.
+pub fn plan_of_two(alloc: Global, kind: WireKind) -> Result<Plan, NoMemory>
+    requires { HasWeight kind }
+    ensures inputs { IfOk result (λ plan. plan.inputs ≡ 1) }
+    ensures wires { IfOk result (λ plan. length plan.kinds ≡ 2) }
+    ensures rows { IfOk result (λ plan. length plan.rows ≡ 1) }
+{
+    let row = difference(alloc, 0)?;
+    let mut plan = Plan::new(alloc, 1)?;
+    plan.append(&[kind], Some(row))?;
+    Ok(plan)
+}
+
+/// A seat of a lane of one input.
+pub fn seat_7(alloc: Global) -> Result<Seq<u16>, NoMemory>
+    ensures { IfOk result (λ seats. length seats ≡ 1) }
+{
+    let seats = Vec::from_array(alloc, [7])?;
+    Ok(Seq::from_vec(seats))
+}
+
+/// The number of one row.
+pub fn posted_number(alloc: Global, number: u64) -> Result<Seq<Residue>, NoMemory>
+    ensures { IfOk result (λ posted. length posted ≡ 1) }
+{
+    let posted = Vec::from_array(alloc, [residue(number)])?;
+    Ok(Seq::from_vec(posted))
+}
+
+/// Lane 1 of such a plan, with these commitments and this number.
+pub fn case_of_two(
+    alloc: Global,
+    first: WireCom,
+    second: WireCom,
+    number: u64,
+) -> Result<LaneCase, NoMemory>
+    ensures seats { IfOk result (λ case. length case.seats ≡ 1) }
+    ensures wires { IfOk result (λ case. length case.coms ≡ 2) }
+    ensures rows { IfOk result (λ case. length case.posted ≡ 1) }
+{
+    let seats = seat_7(alloc)?;
+    let coms = Vec::from_array(alloc, [first, second])?;
+    let posted = posted_number(alloc, number)?;
+    Ok(LaneCase {
+        auction: AUCTION,
+        lane: 1,
+        seats,
+        coms: Seq::from_vec(coms),
+        posted,
+    })
+}
+
+/// The halves of a lane that is accepted.
 pub fn accepted_halves(
+    rt: &impl Abort,
     alloc: Global,
     plan: &Plan,
     case: &LaneCase,
     bit: bool,
     shown: &[Shown],
-) -> Result<Vec<Residue>, Fail> {
-    if !has_counts(plan, case, shown) {
-        return Err("not one of each".into());
-    }
-    let halves = check_lane(alloc, plan, case, bit, shown)?;
-    Ok(halves)
+) -> Vec<Residue> {
+    assert!(rt; has_counts(plan, case, shown), "not one of each");
+    check_lane(alloc, plan, case, bit, shown).expect(rt, "accepted")
 }
 
 /// Whether there is one of each for the plan.
