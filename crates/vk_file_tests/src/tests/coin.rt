@@ -1,11 +1,11 @@
-// The challenge of a board that its shelf gives once, in pieces, and the bits of an auditor.
+// The challenge of a board that its shelf gives once, in pieces, the bits of an auditor, and a share.
 ghost use Rattle.std.specs.Prelude.{◌≡◌, length, IfOk};
 
-use super::files::board;
+use super::files::{Given, board};
 use std::alloc::Global;
-use std::test::Fail;
-use vk_coin::{board_challenge, own_bits};
-use vk_io::{OutsideErr, Shelf};
+use std::process::Abort;
+use vk_coin::{board_challenge, own_bits, read_share, share_commit};
+use vk_lines::ReadErr;
 use vk_reply::Challenge;
 use vk_report::ReportErr;
 use vk_residue::NoMemory;
@@ -16,73 +16,36 @@ fn first_line() -> &'static [u8] {
     b"vickrey-board 1\n"
 }
 
-/// A shelf of the smallest board, of which it gives at most so many bytes at once. Once the last one
-/// was given, the first line is left, as where another program writes the file anew.
-#[derive(Drop)]
-struct Rewritten {
-    most: usize,
-    left: &'static [u8],
-}
-
-impl Shelf for Rewritten {
-    ghost use Rattle.std.specs.Prelude.{None};
-
-    ghost held = { λ _. None };
-
-    ghost faults = { λ _. 0 };
-
-    ghost wants = { λ _. 0 };
-
-    ghost length_gives = { λ _ _ _ _. Unit {0} };
-
-    fn length(&mut self, _name: &str) -> Result<Option<u64>, OutsideErr> {
-        Ok(Some(board().len() as u64))
-    }
-
-    fn read_at(&mut self, _name: &str, at: u64, into: &mut [u8]) -> Result<usize, OutsideErr> {
-        let from = at.min(self.left.len() as u64) as usize;
-        let (_, rest) = self.left.split_at(from);
-        let count = rest.len().min(into.len()).min(self.most);
-        let (piece, behind) = rest.split_at(count);
-        into[..count].copy_from_slice(piece);
-        if behind.is_empty() {
-            self.left = first_line();
-        }
-        Ok(count)
-    }
-
-    fn create(&mut self, _name: &str) -> Result<(), OutsideErr> {
-        Ok(())
-    }
-
-    fn append(&mut self, _name: &str, _piece: &[u8]) -> Result<(), OutsideErr> {
-        Ok(())
-    }
-}
-
 #[test]
-fn a_board_is_read_once_in_pieces(rt: HostRuntime) -> Result<(), Fail> {
+fn a_board_is_read_once_in_pieces(rt: HostRuntime) {
     for most in [256, 257, 300, 4096] {
         // Worked out by another implementation of SHA-256. The first line alone gives 1.
-        assert!(rt; derived_bits(rt.alloc(), most)? == Some(false));
+        assert!(rt; derived_bits(rt.alloc(), most) == Ok(Some(false)));
     }
-    Ok(())
 }
 
 /// The one bit of the challenge that is derived.
 fn derived_bits(alloc: Global, most: usize) -> Result<Option<bool>, ReportErr> {
-    let left = board();
-    let mut shelf = Rewritten { most, left };
+    let mut shelf = Given {
+        most,
+        then: first_line(),
+        ..Given::of(board())
+    };
     let challenge = board_challenge(alloc, &mut shelf, "board")?;
     Ok(challenge.bits.as_slice().first().copied())
 }
 
 #[test]
-fn an_auditor_finds_its_own_bits(rt: HostRuntime) -> Result<(), Fail> {
-    let wanted = challenge_of(rt.alloc(), [true, false, true])?;
-    let others = [challenge_of(rt.alloc(), [false, true, true])?];
-    let own = own_bits(rt.alloc(), &wanted, &others)?;
-    assert!(rt; own.as_slice() == [true, true, false].as_slice());
+fn an_auditor_finds_its_own_bits(rt: HostRuntime) {
+    assert!(rt; try_own(&rt, rt.alloc()).is_ok());
+}
+
+fn try_own(rt: &impl Abort, alloc: Global) -> Result<(), NoMemory> {
+    let wanted = challenge_of(alloc, [true, false, true])?;
+    let others = [challenge_of(alloc, [false, true, true])?];
+    let own = own_bits(alloc, &wanted, &others)?;
+    let same = own.as_slice() == [true, true, false].as_slice();
+    assert!(rt; same);
     Ok(())
 }
 
@@ -91,4 +54,28 @@ fn challenge_of(alloc: Global, bits: [bool; 3]) -> Result<Challenge, NoMemory>
 {
     let bits = Seq::from_vec(Vec::from_slice(alloc, bits.as_slice())?);
     Ok(Challenge { bits })
+}
+
+/// The share of auditor 16 for 64 lanes, of which the last has the bit 1.
+fn share() -> &'static [u8] {
+    b"vickrey-share 1\nauction 000102030405060708090a0b0c0d0e0f\nauditor 16\nshow e81ed91bd7a3692d93ab1e740e2ed7c68aedaad797e0daf29103726ab86f955b 0000000000000000000000000000000000000000000000000000000000000001\nend\n"
+}
+
+/// Its part, as the program `vectors` has it of an independent implementation.
+const PART: [u8; 32] = [
+    0x9a, 0x7f, 0x84, 0x0c, 0x28, 0xe3, 0x11, 0x3b, 0xb0, 0x89, 0xd4, 0xa1, 0x30, 0xca, 0xde, 0x76,
+    0x65, 0xbf, 0x4d, 0x01, 0xff, 0x09, 0x00, 0x0d, 0x39, 0x58, 0xc3, 0x02, 0x69, 0x44, 0xb3, 0x45,
+];
+
+#[test]
+fn a_share_is_read_and_has_its_part(rt: HostRuntime) {
+    assert!(rt; part_of(&rt, rt.alloc(), share()) == Ok(PART));
+}
+
+/// The part of the share that the file shows.
+fn part_of(rt: &impl Abort, alloc: Global, bytes: &[u8]) -> Result<[u8; 32], ReadErr> {
+    let mut shelf = Given::of(bytes);
+    let mut lines = shelf.lines(rt, alloc);
+    let share = read_share(alloc, &mut shelf, &mut lines)?;
+    Ok(share_commit(&share))
 }

@@ -1,7 +1,84 @@
-// Files that several of these tests take. Another program wrote the smallest board and the replies
-// to both bits.
+// Files that several of these tests take, and a shelf of one file. Another program wrote the
+// smallest board and the replies to both bits.
 use std::alloc::Global;
+use std::panic::Expect;
+use std::process::Abort;
 use vk_io::{MemShelf, OutsideErr, Shelf};
+use vk_lines::Lines;
+
+/// A shelf whose every name has this file, of which it gives at most so many bytes at once. Once the
+/// last one was given, it is another file, as where another program writes it anew.
+#[derive(Clone, Copy)]
+pub struct Given<'a> {
+    pub length: u64,
+    pub most: usize,
+    pub left: &'a [u8],
+    pub then: &'a [u8],
+}
+
+impl<'a> Given<'a> {
+    /// The file stays as it is.
+    pub fn of(bytes: &'a [u8]) -> Given<'a> {
+        Given {
+            length: bytes.len() as u64,
+            most: 4096,
+            left: bytes,
+            then: bytes,
+        }
+    }
+
+    /// A file of so many bytes, of which none is given.
+    pub fn vast(length: u64) -> Given<'a> {
+        Given {
+            length,
+            most: 0,
+            left: b"",
+            then: b"",
+        }
+    }
+
+    /// The lines of the file.
+    pub fn lines(&mut self, rt: &impl Abort, alloc: Global) -> Lines {
+        let lines = Lines::start(alloc, self, "file").expect(rt, "begun");
+        lines
+    }
+}
+
+impl<'a> Shelf for Given<'a> {
+    ghost use Rattle.std.specs.Prelude.{None};
+
+    ghost held = { λ _. None };
+
+    ghost faults = { λ _. 0 };
+
+    ghost wants = { λ _. 0 };
+
+    ghost length_gives = { λ _ _ _ _. Unit {0} };
+
+    fn length(&mut self, _name: &str) -> Result<Option<u64>, OutsideErr> {
+        Ok(Some(self.length))
+    }
+
+    fn read_at(&mut self, _name: &str, at: u64, into: &mut [u8]) -> Result<usize, OutsideErr> {
+        let from = at.min(self.left.len() as u64) as usize;
+        let (_, rest) = self.left.split_at(from);
+        let count = rest.len().min(into.len()).min(self.most);
+        let (piece, behind) = rest.split_at(count);
+        into[..count].copy_from_slice(piece);
+        if behind.is_empty() {
+            self.left = self.then;
+        }
+        Ok(count)
+    }
+
+    fn create(&mut self, _name: &str) -> Result<(), OutsideErr> {
+        Ok(())
+    }
+
+    fn append(&mut self, _name: &str, _piece: &[u8]) -> Result<(), OutsideErr> {
+        Ok(())
+    }
+}
 
 /// The smallest board.
 pub fn board() -> &'static [u8] {

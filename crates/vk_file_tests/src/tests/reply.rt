@@ -3,43 +3,53 @@
 ghost use Rattle.std.specs.Prelude.{◌≡◌, ◌∷◌, [], IfOk};
 ghost use Rattle.vk_plan.specs.declared.wire.WireKind.TheVariants.{Pair, Split};
 
-use super::files::{reply_0, reply_1, reply_1_end, second_wire};
+use super::files::{Given, reply_0, reply_1, reply_1_end, second_wire};
 use std::alloc::Global;
-use std::test::Fail;
+use std::panic::Expect;
+use std::process::Abort;
 use vk_commit::Opening;
-use vk_io::{MemShelf, Shelf};
-use vk_lines::Lines;
+use vk_lines::ReadErr;
 use vk_plan::{Plan, WireKind};
 use vk_reply::{
-    challenge_text, read_challenge, read_reply_head, read_reply_lane, reply_head_text,
+    Challenge, challenge_text, read_challenge, read_reply_head, read_reply_lane, reply_head_text,
     reply_lane_text,
 };
-use vk_residue::Residue;
+use vk_residue::{NoMemory, Residue};
 use vk_seq::Seq;
 use vk_wire::Shown;
 
 #[test]
-fn a_challenge_is_read_and_written_back(rt: HostRuntime) -> Result<(), Fail> {
+fn a_challenge_is_read_and_written_back(rt: HostRuntime) {
     let bytes = b"vickrey-challenge 1\nbits 01\nend\n".as_slice();
-    let mut shelf = MemShelf::new(rt.alloc());
-    shelf.put_file("c", bytes)?;
-    let mut lines = Lines::start(rt.alloc(), &mut shelf, "c")?;
-    let challenge = read_challenge(rt.alloc(), &mut shelf, &mut lines)?;
+    assert!(rt; try_challenge(&rt, rt.alloc(), bytes).is_ok());
+}
+
+fn try_challenge(rt: &impl Abort, alloc: Global, bytes: &[u8]) -> Result<(), ReadErr> {
+    let mut shelf = Given::of(bytes);
+    let mut lines = shelf.lines(rt, alloc);
+    let challenge = read_challenge(alloc, &mut shelf, &mut lines)?;
     assert!(rt; challenge.bits.as_slice() == [false, true].as_slice());
-    assert!(rt; challenge_text(rt.alloc(), &challenge)?.as_slice() == bytes);
+    assert!(rt; has_text(alloc, &challenge, bytes));
     Ok(())
 }
 
-fn opening(key: u8, number: u64) -> Result<Opening, Fail> {
-    let value = Residue::new(number).ok_or("not below the modulus")?;
-    Ok(Opening {
+/// Whether this is the challenge's file.
+pub fn has_text(alloc: Global, challenge: &Challenge, expected: &[u8]) -> bool {
+    match challenge_text(alloc, challenge) {
+        Ok(text) => text.as_slice() == expected,
+        Err(_) => false,
+    }
+}
+
+fn opening(key: u8, number: u64) -> Opening {
+    Opening {
         key: [key; 32],
-        value,
-    })
+        value: Residue::new(number).unwrap_or(Residue::ZERO),
+    }
 }
 
 /// Two inputs, and a pair that is 0 or 1.
-fn plan_of_a_pair(alloc: Global) -> Result<Plan, Fail>
+fn plan_of_a_pair(alloc: Global) -> Result<Plan, NoMemory>
     ensures { IfOk result (λ plan. plan.kinds ≡ Split ∷ Split ∷ Pair 0 ∷ []) }
 {
     let mut plan = Plan::new(alloc, 2)?;
@@ -47,35 +57,42 @@ fn plan_of_a_pair(alloc: Global) -> Result<Plan, Fail>
     Ok(plan)
 }
 
-/// Reads a reply of one lane and writes it back.
-fn copied(alloc: Global, bytes: &[u8], bit: bool, expected: &[Shown]) -> Result<Vec<u8>, Fail> {
-    let mut shelf = MemShelf::new(alloc);
-    shelf.put_file("r", bytes)?;
-    let plan = plan_of_a_pair(alloc)?;
-    let (lanes, shown) = lane_in(alloc, &mut shelf, &plan, bit)?;
-    if shown.as_slice() != expected {
-        return Err(Fail::from("another lane was read"));
-    }
-    text_of(alloc, lanes, shown.as_slice())
+/// A reply of one lane with this plan is read, shows this, and is written back.
+fn try_copied(
+    rt: &impl Abort,
+    alloc: Global,
+    bytes: &[u8],
+    plan: &Plan,
+    bit: bool,
+    expected: &[Shown; 3],
+) -> Result<(), ReadErr>
+    requires { plan.now.kinds ≡ Split ∷ Split ∷ Pair 0 ∷ [] }
+{
+    let (lanes, shown) = lane_in(rt, alloc, bytes, plan, bit)?;
+    assert!(rt; shown.as_slice() == expected.as_slice());
+    assert!(rt; is_written(alloc, lanes, shown.as_slice(), bytes));
+    Ok(())
 }
 
 /// How many lanes the reply says to have, and what is shown of its one lane.
-fn lane_in<S: Shelf>(
+fn lane_in(
+    rt: &impl Abort,
     alloc: Global,
-    shelf: &mut S,
+    bytes: &[u8],
     plan: &Plan,
     bit: bool,
-) -> Result<(u32, Seq<Shown>), Fail>
+) -> Result<(u32, Seq<Shown>), ReadErr>
     requires { plan.now.kinds ≡ Split ∷ Split ∷ Pair 0 ∷ [] }
 {
-    let mut lines = Lines::start(alloc, shelf, "r")?;
-    let lanes = read_reply_head(shelf, &mut lines)?;
-    let shown = read_reply_lane(alloc, shelf, &mut lines, 1, plan, bit)?;
-    lines.read_end(shelf)?;
+    let mut shelf = Given::of(bytes);
+    let mut lines = shelf.lines(rt, alloc);
+    let lanes = read_reply_head(&mut shelf, &mut lines)?;
+    let shown = read_reply_lane(alloc, &mut shelf, &mut lines, 1, plan, bit)?;
+    lines.read_end(&mut shelf)?;
     Ok((lanes, shown))
 }
 
-fn text_of(alloc: Global, lanes: u32, shown: &[Shown]) -> Result<Vec<u8>, Fail> {
+fn text_of(alloc: Global, lanes: u32, shown: &[Shown]) -> Result<Vec<u8>, NoMemory> {
     let mut text = reply_head_text(alloc, lanes)?;
     let lane = reply_lane_text(alloc, 1, shown)?;
     text.extend_from_slice(lane.as_slice())?;
@@ -83,30 +100,50 @@ fn text_of(alloc: Global, lanes: u32, shown: &[Shown]) -> Result<Vec<u8>, Fail> 
     Ok(text)
 }
 
+/// Whether this is the file of the reply.
+fn is_written(alloc: Global, lanes: u32, shown: &[Shown], expected: &[u8]) -> bool {
+    match text_of(alloc, lanes, shown) {
+        Ok(text) => text.as_slice() == expected,
+        Err(_) => false,
+    }
+}
+
 #[test]
-fn replies_to_both_bits_are_read_and_written_back(rt: HostRuntime) -> Result<(), Fail> {
-    let first = opening(0x55, 2305843009213693947)?;
+fn replies_to_both_bits_are_read_and_written_back(rt: HostRuntime) {
+    assert!(rt; try_zero(&rt, rt.alloc()).is_ok());
+    assert!(rt; try_one(&rt, rt.alloc()).is_ok());
+}
+
+fn try_zero(rt: &impl Abort, alloc: Global) -> Result<(), ReadErr> {
+    let plan = plan_of_a_pair(alloc).expect(rt, "a plan");
     let zero = [
-        Shown::Half(opening(0x11, 3)?),
-        Shown::Half(opening(0x33, 10)?),
-        Shown::Whole(first, opening(0x66, 2305843009213693948)?),
+        Shown::Half(opening(0x11, 3)),
+        Shown::Half(opening(0x33, 10)),
+        Shown::Whole(
+            opening(0x55, 2305843009213693947),
+            opening(0x66, 2305843009213693948),
+        ),
     ];
+    try_copied(rt, alloc, reply_0(), &plan, false, &zero)
+}
+
+fn try_one(rt: &impl Abort, alloc: Global) -> Result<(), ReadErr> {
+    let plan = plan_of_a_pair(alloc).expect(rt, "a plan");
     let one = [
-        Shown::Half(opening(0x22, 2305843009213693948)?),
-        Shown::Half(opening(0x44, 2305843009213693941)?),
+        Shown::Half(opening(0x22, 2305843009213693948)),
+        Shown::Half(opening(0x44, 2305843009213693941)),
         Shown::Spent {
             second: false,
-            opening: first,
+            opening: opening(0x55, 2305843009213693947),
         },
     ];
-    let to_one = joined(rt.alloc(), reply_1(), second_wire(), reply_1_end())?;
-    assert!(rt; copied(rt.alloc(), reply_0(), false, &zero)?.as_slice() == reply_0());
-    assert!(rt; copied(rt.alloc(), &to_one, true, &one)?.as_slice() == to_one.as_slice());
-    Ok(())
+    let joined = joined(alloc, reply_1(), second_wire(), reply_1_end());
+    let to_one = joined.expect(rt, "a reply");
+    try_copied(rt, alloc, to_one.as_slice(), &plan, true, &one)
 }
 
 /// Three pieces, one after another.
-fn joined(alloc: Global, first: &[u8], second: &[u8], third: &[u8]) -> Result<Vec<u8>, Fail> {
+fn joined(alloc: Global, first: &[u8], second: &[u8], third: &[u8]) -> Result<Vec<u8>, NoMemory> {
     let mut bytes = Vec::from_slice(alloc, first)?;
     bytes.extend_from_slice(second)?;
     bytes.extend_from_slice(third)?;

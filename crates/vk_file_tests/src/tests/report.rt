@@ -1,62 +1,59 @@
 // Boards that are missing or fail, and samples. Reports, and boards that are refused, are replayed
 // by the program `conformance`.
 use super::files::board;
+use super::reply::has_text;
 use std::alloc::Global;
 use std::process::Abort;
-use std::test::Fail;
 use vk_io::MemShelf;
-use vk_reply::{Challenge, challenge_text};
-use vk_report::{ReportErr, read_report, sample_case};
+use vk_report::{ReportErr, SampleCase, read_report, sample_case};
+use vk_residue::NoMemory;
 use vk_vickrey::outcome;
 
 #[test]
-fn a_missing_board_and_a_failure_are_told_apart(rt: HostRuntime) -> Result<(), Fail> {
-    let alloc = rt.alloc();
+fn a_missing_board_and_a_failure_are_told_apart(rt: HostRuntime) {
+    assert!(rt; try_missing(&rt, rt.alloc()).is_ok());
+}
+
+fn try_missing(rt: &impl Abort, alloc: Global) -> Result<(), NoMemory> {
     let mut shelf = MemShelf::new(alloc);
     shelf.put_file("board", board())?;
-    try_missing(&rt, alloc, &mut shelf)
+    shelf.fail_at(3)?;
+    check_refused(rt, alloc, &mut shelf);
+    Ok(())
 }
 
 // What is tried is borrowed: nothing is dropped where an assertion ends it, and so it is proved
 // fast.
 
-fn try_missing(rt: &impl Abort, alloc: Global, shelf: &mut MemShelf) -> Result<(), Fail> {
+fn check_refused(rt: &impl Abort, alloc: Global, shelf: &mut MemShelf) {
     let refused = read_report(alloc, shelf, "other").err();
     assert!(rt; refused == Some(ReportErr::Missing));
-    shelf.fail_at(3)?;
     let failed = read_report(alloc, shelf, "board").err();
     assert!(rt; failed == Some(ReportErr::Failed));
-    Ok(())
 }
 
 // The values of the three tests below were worked out by another implementation of SHA-256.
 
 #[test]
-fn a_sample_has_an_id_and_seeds(rt: HostRuntime) -> Result<(), Fail> {
-    let sample = sample_case(rt.alloc(), 1)?;
-    try_bytes(
-        &rt,
-        rt.alloc(),
-        &sample.auction,
-        "398da8b0a75945c2f668465e655e7ec1",
-    )?;
-    try_bytes(
-        &rt,
-        rt.alloc(),
-        &sample.seed,
-        "6f7902cdb696924880db199bbe5a06f10647b212b6f53cf7b822fece258c8069",
-    )?;
-    try_seeds(&rt, rt.alloc(), sample.seeds.as_slice())
+fn a_sample_has_an_id_and_seeds(rt: HostRuntime) {
+    assert!(rt; try_seeds(&rt, rt.alloc()).is_ok());
 }
 
-/// The bytes are these digits.
-fn try_bytes(rt: &impl Abort, alloc: Global, bytes: &[u8], expected: &str) -> Result<(), Fail> {
-    let digits = hex::encode(alloc, bytes)?;
-    assert!(rt; digits.as_str() == expected);
+fn try_seeds(rt: &impl Abort, alloc: Global) -> Result<(), NoMemory> {
+    let sample = sample_case(alloc, 1)?;
+    check_seeds(rt, alloc, &sample);
     Ok(())
 }
 
-fn try_seeds(rt: &impl Abort, alloc: Global, seeds: &[[u8; 32]]) -> Result<(), Fail> {
+fn check_seeds(rt: &impl Abort, alloc: Global, sample: &SampleCase) {
+    assert!(rt; are_digits(alloc, &sample.auction, "398da8b0a75945c2f668465e655e7ec1"));
+    assert!(rt;
+        are_digits(
+            alloc,
+            &sample.seed,
+            "6f7902cdb696924880db199bbe5a06f10647b212b6f53cf7b822fece258c8069",
+        )
+    );
     for (index, expected) in [
         (
             0,
@@ -71,59 +68,69 @@ fn try_seeds(rt: &impl Abort, alloc: Global, seeds: &[[u8; 32]]) -> Result<(), F
             "74846e50bf653276db9863deda6d7c768892a62c3f35613d0ce19321577cbec7",
         ),
     ] {
-        try_bytes(rt, alloc, seeds.get(index).ok_or("no seed")?, expected)?;
+        assert!(rt; is_seed(alloc, sample.seeds.as_slice(), index, expected));
     }
-    Ok(())
+}
+
+/// Whether the bytes are these digits.
+fn are_digits(alloc: Global, bytes: &[u8], expected: &str) -> bool {
+    match hex::encode(alloc, bytes) {
+        Ok(digits) => digits.as_str() == expected,
+        Err(_) => false,
+    }
+}
+
+/// Whether the seed of that index is these digits.
+fn is_seed(alloc: Global, seeds: &[[u8; 32]], index: usize, expected: &str) -> bool {
+    match seeds.get(index) {
+        Some(seed) => are_digits(alloc, seed, expected),
+        None => false,
+    }
 }
 
 #[test]
-fn the_challenges_of_a_sample_differ_in_each_bit(rt: HostRuntime) -> Result<(), Fail> {
-    let sample = sample_case(rt.alloc(), 1)?;
-    try_challenges(&rt, rt.alloc(), &sample.first, &sample.second)
+fn the_challenges_of_a_sample_differ_in_each_bit(rt: HostRuntime) {
+    assert!(rt; try_challenges(&rt, rt.alloc()).is_ok());
 }
 
-fn try_challenges(
-    rt: &impl Abort,
-    alloc: Global,
-    first: &Challenge,
-    second: &Challenge,
-) -> Result<(), Fail> {
-    let first = challenge_text(alloc, first)?;
-    assert!(rt;
-        first.as_slice()
-            == b"vickrey-challenge 1\nbits 1100000100110010101100000011101110100100\nend\n".as_slice()
-    );
-    let second = challenge_text(alloc, second)?;
-    assert!(rt;
-        second.as_slice()
-            == b"vickrey-challenge 1\nbits 0011111011001101010011111100010001011011\nend\n".as_slice()
-    );
+fn try_challenges(rt: &impl Abort, alloc: Global) -> Result<(), NoMemory> {
+    let sample = sample_case(alloc, 1)?;
+    check_challenges(rt, alloc, &sample);
     Ok(())
 }
 
+fn check_challenges(rt: &impl Abort, alloc: Global, sample: &SampleCase) {
+    assert!(rt;
+        has_text(
+            alloc,
+            &sample.first,
+            b"vickrey-challenge 1\nbits 1100000100110010101100000011101110100100\nend\n",
+        )
+    );
+    assert!(rt;
+        has_text(
+            alloc,
+            &sample.second,
+            b"vickrey-challenge 1\nbits 0011111011001101010011111100010001011011\nend\n",
+        )
+    );
+}
+
 #[test]
-fn the_bids_of_samples_have_these_outcomes(rt: HostRuntime) -> Result<(), Fail> {
+fn the_bids_of_samples_have_these_outcomes(rt: HostRuntime) {
     for (number, winner, price) in [
         (1, 102, 3906057492),
         (2, 109, 3969951427),
         (u64::MAX, 108, 4054728114),
     ] {
-        try_outcome(&rt, rt.alloc(), number, winner, price)?;
+        assert!(rt; outcome_of(rt.alloc(), number) == Ok((winner, price)));
     }
-    Ok(())
 }
 
-fn try_outcome(
-    rt: &impl Abort,
-    alloc: Global,
-    number: u64,
-    winner: u16,
-    price: u64,
-) -> Result<(), Fail> {
+/// Who wins in the sample of that number, and at which price.
+fn outcome_of(alloc: Global, number: u64) -> Result<(u16, u64), NoMemory> {
     let sample = sample_case(alloc, number)?;
     let made = outcome(sample.bids.as_slice());
-    assert!(rt; made.price == price);
     let seat = sample.seats.as_slice()[made.position as usize - 1];
-    assert!(rt; seat == winner);
-    Ok(())
+    Ok((seat, made.price))
 }
