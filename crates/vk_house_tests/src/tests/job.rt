@@ -1,5 +1,6 @@
 // An auction of three seals, whose files an independent implementation made. The files themselves
-// are replayed by the program `conformance`; of the lines of one lane SHA-256 is compared.
+// are replayed by the program `conformance`; of the lines of one seal and of one lane SHA-256 is
+// compared.
 ghost use Rattle.std.specs.Prelude.{◌≡◌, length, IfOk, IsSome};
 ghost use Rattle.vk_keeper.specs.Auctions.{IsAuction, challenge_of, seed_of};
 ghost use Rattle.vk_reply.specs.Values.{IsChallenge};
@@ -9,9 +10,11 @@ use sha2::{Digest, Sha256};
 use std::alloc::Global;
 use std::process::Abort;
 use std::test::Fail;
+use vk_board::{lane_text, seal_lines_text};
 use vk_job::Job;
 use vk_keeper::{Auction, Phase};
 use vk_reply::{Challenge, reply_lane_text};
+use vk_residue::NoMemory;
 use vk_seq::Seq;
 use vk_vickrey::Sale;
 
@@ -23,6 +26,12 @@ const SEED: [u8; 32] = [0x5a; 32];
 const SECOND_LANE: [u8; 32] = [
     0xac, 0x11, 0x43, 0xc6, 0x4e, 0x1a, 0xb5, 0x90, 0x04, 0x07, 0x15, 0x73, 0x9c, 0xa1, 0x01, 0xc4,
     0x85, 0x36, 0x4f, 0x51, 0xb6, 0x13, 0xab, 0xaf, 0x85, 0xa1, 0x5d, 0x90, 0x4a, 0x3e, 0x0c, 0xac,
+];
+
+// Of the lines of the third seal on the board, and behind them those of its lane 2.
+const SEAL_AND_LANE: [u8; 32] = [
+    0xa8, 0x45, 0xf9, 0xe4, 0x03, 0x39, 0xcd, 0x8a, 0x96, 0x75, 0xbb, 0xe8, 0x03, 0x74, 0x92, 0xbe,
+    0x03, 0xed, 0xa7, 0x82, 0x70, 0x12, 0x7e, 0xe1, 0x21, 0x28, 0x84, 0xe5, 0x6e, 0x8b, 0x91, 0xcd,
 ];
 
 /// The seed of the bidder at that seat: the seat as a number of 32 bytes.
@@ -67,6 +76,7 @@ fn answered(alloc: Global, seed: &[u8; 32], bits: &[bool; 3]) -> Result<Auction,
     ensures right { IfOk result IsAuction }
     ensures seeded { IfOk result (λ auction. IsSome (seed_of auction.phase)) }
     ensures answered { IfOk result (λ auction. IsSome (challenge_of auction.phase)) }
+    ensures seals { IfOk result (λ auction. length auction.seals ≡ 3) }
     ensures lanes { IfOk result (λ auction. auction.lanes ≡ 3) }
 {
     let challenge = challenge(alloc, bits)?;
@@ -79,10 +89,11 @@ fn answered(alloc: Global, seed: &[u8; 32], bits: &[bool; 3]) -> Result<Auction,
 }
 
 #[test]
-fn the_kept_challenge_is_replied_to(rt: HostRuntime) -> Result<(), Fail> {
+fn what_is_published_and_replied_is_as_elsewhere(rt: HostRuntime) -> Result<(), Fail> {
     let auction = answered(rt.alloc(), &SEED, &[false, true, false])?;
     let job = Job::of(rt.alloc(), auction)?;
-    try_job(&rt, rt.alloc(), &job)
+    try_job(&rt, rt.alloc(), &job)?;
+    try_published(&rt, rt.alloc(), &job)
 }
 
 fn try_job(rt: &impl Abort, alloc: Global, job: &Job) -> Result<(), Fail>
@@ -99,4 +110,32 @@ fn try_job(rt: &impl Abort, alloc: Global, job: &Job) -> Result<(), Fail>
     let text = reply_lane_text(alloc, 2, shown.as_slice())?;
     assert!(rt; Sha256::digest(text.as_slice()) == SECOND_LANE);
     Ok(())
+}
+
+/// The third seal and lane 2 are those of the board.
+fn try_published(rt: &impl Abort, alloc: Global, job: &Job) -> Result<(), Fail>
+    requires seals { length job.now.auction.seals ≡ 3 }
+    requires lanes { job.now.auction.lanes ≡ 3 }
+{
+    let mut text = seal_of(alloc, job)?;
+    let lane = lane_of(alloc, job)?;
+    text.extend_from_slice(lane.as_slice())?;
+    assert!(rt; Sha256::digest(text.as_slice()) == SEAL_AND_LANE);
+    Ok(())
+}
+
+fn seal_of(alloc: Global, job: &Job) -> Result<Vec<u8>, NoMemory>
+    requires { length job.now.auction.seals ≡ 3 }
+{
+    let seal = job.seal(alloc, 3)?;
+    let text = seal_lines_text(alloc, &seal)?;
+    Ok(text)
+}
+
+fn lane_of(alloc: Global, job: &Job) -> Result<Vec<u8>, NoMemory>
+    requires { job.now.auction.lanes ≡ 3 }
+{
+    let lane = job.lane(alloc, 2)?;
+    let text = lane_text(alloc, 2, &lane)?;
+    Ok(text)
 }
