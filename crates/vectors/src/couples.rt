@@ -3,56 +3,63 @@
 ghost use Rattle.std.specs.Prelude.{◌≤◌, length};
 
 use crate::sales::values_of;
+use crate::text::Text;
 use std::alloc::Global;
-use vk_cases::{Tried, Unreplayed, number_at, numbers_in, word_at};
-use vk_lines::{end_line, push_decimal, push_line, push_space};
+use vk_cases::{Tried, Unreplayed, number_at};
 use vk_matching::{MatchingPlan, propose};
 use vk_plan::{Circuit, Plan};
 use vk_residue::Residue;
 
 /// The width that the ranks of every table are of.
-const WIDTH: u64 = 16;
+const WIDTH: u32 = 16;
 
-/// The case, and all matchings of its ranks that are shown, in ascending order.
-pub fn table_text(alloc: Global, case: &[u8]) -> Tried<Vec<u8>> {
+/// All matchings that are shown of a case of these ranks, in ascending order, and a line where the
+/// one that is proposed isn't among them.
+pub fn put_table(alloc: Global, text: &mut Text, case: &[u8], ranks: &[u64]) -> Tried<()> {
     let size = number_at(case, 0, 3)? as u32;
-    let ranks = numbers_in(alloc, word_at(case, 1)?)?;
-    let mut text = Vec::from_slice(alloc, case)?;
-    push_table(alloc, &mut text, size, ranks.as_slice())?;
-    Ok(text)
-}
-
-/// All matchings that are shown, and a line where the one that is proposed isn't among them.
-fn push_table(alloc: Global, text: &mut Vec<u8>, size: u32, ranks: &[u64]) -> Tried<()> {
     if size == 0 || 3 < size || ranks.len() != (2 * size * size) as usize {
         return Err(Unreplayed::NoCase);
     }
     let proposed = propose(alloc, size, ranks)?;
-    let is_among = push_matchings(alloc, text, size, ranks, proposed.as_slice())?;
-    end_line(text)?;
+    put_beside(alloc, text, size, ranks, proposed.as_slice())
+}
+
+/// All matchings that are shown, and a line where that one isn't among them.
+fn put_beside(
+    alloc: Global,
+    text: &mut Text,
+    size: u32,
+    ranks: &[u64],
+    proposed: &[u32],
+) -> Tried<()>
+    requires few { length ranks.now ≤ 18 }
+    requires size { size ≤ 3 }
+{
+    let is_among = put_all(alloc, text, size, ranks, proposed)?;
+    text.put(b"\n");
     if !is_among {
-        push_line(text, b"another matching is proposed")?;
+        text.put_line(b"another matching is proposed");
     }
     Ok(())
 }
 
 /// All matchings that are shown. Whether that one is among them.
-fn push_matchings(
+fn put_all(
     alloc: Global,
-    text: &mut Vec<u8>,
+    text: &mut Text,
     size: u32,
     ranks: &[u64],
     proposed: &[u32],
 ) -> Tried<bool>
-    requires { length ranks.now ≤ 18 }
+    requires few { length ranks.now ≤ 18 }
+    requires size { size ≤ 3 }
 {
     let mut is_among = false;
     let mut mark: &[u8] = b" | ";
     for number in 0..lists_of(size) {
-        let numbers = numbers_of(alloc, size, number)?;
-        if is_shown(alloc, ranks, numbers.as_slice())? {
-            text.extend_from_slice(mark)?;
-            is_among = push_women(text, numbers.as_slice(), proposed)? || is_among;
+        let numbers = numbers_of(size, number);
+        if is_shown(alloc, ranks, &numbers, size)? {
+            is_among = put_women(text, mark, &numbers, proposed) || is_among;
             mark = b" ";
         }
     }
@@ -68,100 +75,138 @@ fn lists_of(size: u32) -> u64 {
     }
 }
 
-/// The width, and behind it the women of the list of that number, from 0.
-fn numbers_of(alloc: Global, size: u32, number: u64) -> Tried<Vec<u64>> {
+/// The width, and behind it the women of the list of that number, from 0: three of them, of whom
+/// the last are left out where there are fewer men.
+fn numbers_of(size: u32, number: u64) -> [u64; 4] {
     let women = u64::from(size).max(1);
+    let mut numbers = [u64::from(WIDTH); 4];
     let mut unit = lists_of(size);
-    let mut numbers = Vec::new(alloc);
-    numbers.push(WIDTH)?;
-    for _man in 0..size {
+    for man in 1..4 {
         unit = (unit / women).max(1);
-        numbers.push(number / unit % women + 1)?;
+        numbers[man] = number / unit % women + 1;
     }
-    Ok(numbers)
+    numbers
 }
 
-/// Appends the women behind the width, with commas between them. Whether they are those that are
-/// proposed.
-fn push_women(text: &mut Vec<u8>, numbers: &[u64], proposed: &[u32]) -> Tried<bool> {
+/// A mark and the women behind the width, as many as are proposed, with commas between them.
+/// Whether they are those that are proposed.
+fn put_women(text: &mut Text, mark: &[u8], numbers: &[u64; 4], proposed: &[u32]) -> bool {
     let mut are_same = true;
-    let mut mark: &[u8] = b"";
-    for (woman, other) in numbers.iter().skip(1).zip(proposed) {
-        text.extend_from_slice(mark)?;
-        push_decimal(text, *woman)?;
-        are_same = are_same && *woman == u64::from(*other);
+    let mut mark = mark;
+    for man in 0..proposed.len().min(3) {
+        let woman = numbers[man + 1];
+        text.put_number(mark, woman);
+        are_same = are_same && woman == u64::from(proposed[man]);
         mark = b",";
     }
-    Ok(are_same)
+    are_same
 }
 
-/// Whether the numbers are a matching's, and its plan shows of each pair at these ranks that it
-/// doesn't block.
-fn is_shown(alloc: Global, ranks: &[u64], numbers: &[u64]) -> Tried<bool>
-    requires { length ranks.now ≤ 18 }
+/// Whether the numbers are a matching's of so many men, and its plan shows of each pair at these
+/// ranks that it doesn't block.
+fn is_shown(alloc: Global, ranks: &[u64], numbers: &[u64; 4], size: u32) -> Tried<bool>
+    requires few { length ranks.now ≤ 18 }
+    requires size { size ≤ 3 }
 {
     let inputs = ranks.len() as u32;
-    let Some(circuit) = MatchingPlan::from_numbers(alloc, inputs, numbers)? else {
-        return Ok(false);
-    };
+    match MatchingPlan::from_numbers(alloc, inputs, &numbers[..size as usize + 1])? {
+        Some(circuit) => is_shown_by(alloc, &circuit, ranks, pairs_of(size)),
+        None => Ok(false),
+    }
+}
+
+/// How many pairs there are of one of so many men, at most three, and a woman other than his own.
+fn pairs_of(size: u32) -> u32
+    ensures { result ≤ 6 }
+{
+    match size {
+        2 => 2,
+        3 => 6,
+        _ => 0,
+    }
+}
+
+/// Whether the circuit's plan shows of each of so many pairs at these ranks that it doesn't block.
+fn is_shown_by(alloc: Global, circuit: &MatchingPlan, ranks: &[u64], pairs: u32) -> Tried<bool>
+    requires { pairs ≤ 6 }
+{
     let plan = circuit.plan(alloc)?;
+    are_all_shown(alloc, &plan, ranks, pairs)
+}
+
+/// Whether the plan shows of each of so many pairs at these ranks that it doesn't block.
+fn are_all_shown(alloc: Global, plan: &Plan, ranks: &[u64], pairs: u32) -> Tried<bool>
+    requires { pairs ≤ 6 }
+{
     let mut values = values_of(alloc, ranks, plan.wires())?;
-    for pair in 0..pairs_of(numbers) {
-        let forms = forms_of(&plan, values.as_mut_slice(), 16, pair)?;
-        if pair_value(&forms, 16).is_none() {
+    are_shown(plan, values.as_mut_slice(), pairs)
+}
+
+/// Whether both forms of each of so many pairs are in their ranges.
+fn are_shown(plan: &Plan, values: &mut [Residue], pairs: u32) -> Tried<bool>
+    requires { pairs ≤ 6 }
+{
+    for pair in 0..pairs {
+        let forms = forms_of(plan, values, WIDTH, pair)?;
+        if pair_value(&forms, WIDTH).is_none() {
             return Ok(false);
         }
     }
     Ok(true)
 }
 
-/// How many pairs there are of a man and a woman other than his own, behind whose width the women
-/// are, at most three.
-fn pairs_of(numbers: &[u64]) -> u32
-    ensures { result ≤ 6 }
-{
-    match numbers.len() {
-        3 => 2,
-        4 => 6,
-        _ => 0,
-    }
-}
-
 /// The case, both forms of its relation where the wire of its own is 0 and where it is 1, and the
 /// value of that wire with which both are in their ranges, or `none`.
-pub fn either_text(alloc: Global, case: &[u8]) -> Tried<Vec<u8>> {
+pub fn put_either(alloc: Global, text: &mut Text, case: &[u8]) -> Tried<()> {
     let width = number_at(case, 0, 16)? as u32;
     let forms = forms_in(alloc, case, width)?;
-    let mut text = Vec::from_slice(alloc, case)?;
-    for two in [&forms.zero, &forms.one] {
-        text.extend_from_slice(b" | ")?;
-        push_decimal(&mut text, two[0].get())?;
-        push_space(&mut text)?;
-        push_decimal(&mut text, two[1].get())?;
-    }
-    text.extend_from_slice(match pair_value(&forms, width) {
+    text.put(case);
+    put_two(text, &forms.zero);
+    put_two(text, &forms.one);
+    text.put_line(match pair_value(&forms, width) {
         Some(true) => b" | 1",
         Some(false) => b" | 0",
         None => b" | none",
-    })?;
-    end_line(&mut text)?;
-    Ok(text)
+    });
+    Ok(())
+}
+
+/// The values of two forms.
+fn put_two(text: &mut Text, two: &[Residue; 2]) {
+    text.put_number(b" | ", two[0].get());
+    text.put_number(b" ", two[1].get());
 }
 
 /// The forms of the first pair of two men and women whose matching is 2, 1, where the four wires of
 /// its relation have the values of the case.
-fn forms_in(alloc: Global, case: &[u8], width: u32) -> Tried<Forms> {
-    let mut ranks = [0; 8];
-    ranks[0] = number_at(case, 1, u64::MAX)?;
-    ranks[1] = number_at(case, 2, u64::MAX)?;
-    ranks[4] = number_at(case, 3, u64::MAX)?;
-    ranks[5] = number_at(case, 4, u64::MAX)?;
-    let numbers = [u64::from(width), 2, 1];
-    let circuit = MatchingPlan::from_numbers(alloc, 8, &numbers)?.ok_or(Unreplayed::NoCase)?;
+fn forms_in(alloc: Global, case: &[u8], width: u32) -> Tried<Forms>
+    requires { width ≤ 16 }
+{
+    let first = number_at(case, 1, u64::MAX)?;
+    let second = number_at(case, 2, u64::MAX)?;
+    let third = number_at(case, 3, u64::MAX)?;
+    let fourth = number_at(case, 4, u64::MAX)?;
+    let ranks = [first, second, 0, 0, third, fourth, 0, 0];
+    match MatchingPlan::from_numbers(alloc, 8, &[u64::from(width), 2, 1])? {
+        Some(circuit) => forms_by(alloc, &circuit, &ranks, width),
+        None => Err(Unreplayed::NoCase),
+    }
+}
+
+/// The forms of the first pair of the circuit's plan at these ranks.
+fn forms_by(alloc: Global, circuit: &MatchingPlan, ranks: &[u64], width: u32) -> Tried<Forms>
+    requires { width ≤ 16 }
+{
     let plan = circuit.plan(alloc)?;
-    let mut values = values_of(alloc, &ranks, plan.wires())?;
-    let forms = forms_of(&plan, values.as_mut_slice(), width, 0)?;
-    Ok(forms)
+    forms_at(alloc, &plan, ranks, width)
+}
+
+/// The forms of the plan's first pair at these ranks.
+fn forms_at(alloc: Global, plan: &Plan, ranks: &[u64], width: u32) -> Tried<Forms>
+    requires { width ≤ 16 }
+{
+    let mut values = values_of(alloc, ranks, plan.wires())?;
+    forms_of(plan, values.as_mut_slice(), width, 0)
 }
 
 /// The two forms of a pair's relation, where the wire of its own is 0, and where it is 1.
@@ -180,10 +225,13 @@ fn forms_of(plan: &Plan, values: &mut [Residue], width: u32, pair: u32) -> Tried
     if 18 < inputs {
         return Err(Unreplayed::NoCase);
     }
-    let wire = (2 + width) * inputs + pair * (2 * width + 3);
+    let wire = ((2 + width) * inputs + pair * (2 * width + 3)) as usize;
+    if values.len() <= wire {
+        return Err(Unreplayed::NoCase);
+    }
     let row = 2 * inputs + 2 * pair;
     let zero = two_rows(plan, row, values)?;
-    *values.get_mut(wire as usize).ok_or(Unreplayed::NoCase)? = Residue::ONE;
+    values[wire] = Residue::ONE;
     let one = two_rows(plan, row, values)?;
     Ok(Forms { zero, one })
 }
@@ -205,11 +253,15 @@ fn pair_value(forms: &Forms, width: u32) -> Option<bool>
     requires { width ≤ 16 }
 {
     let bound = Residue::pow2(width + 1).get();
-    if forms.one[0].get() < bound && forms.one[1].get() < bound {
+    if are_below(&forms.one, bound) {
         return Some(true);
     }
-    if forms.zero[0].get() < bound && forms.zero[1].get() < bound {
+    if are_below(&forms.zero, bound) {
         return Some(false);
     }
     None
+}
+
+fn are_below(two: &[Residue; 2], bound: u64) -> bool {
+    two[0].get() < bound && two[1].get() < bound
 }

@@ -4,27 +4,20 @@ ghost use Rattle.std.specs.Prelude.{◌≡◌, ◌<◌, ◌^◌, All, IfOk, leng
 ghost use Rattle.vk_plan.specs.Plans.{Holds};
 ghost use Rattle.vk_vickrey.specs.VickreyPlans.{vickrey_plan};
 
-use super::views::push_moved;
-use super::wires::{push_shown, tape_of};
+use crate::parts::{part_at, parts_of};
+use crate::text::Text;
+use crate::views::put_moved;
+use crate::wires::{put_shown, tape_of};
 use std::alloc::Global;
 use vk_cases::{Tried, Unreplayed, number_at};
-use vk_lines::{behind_word, end_line, push_decimal, push_line, push_space, read_decimal};
+use vk_lines::{behind_word, fields};
 use vk_plan::{Circuit, Plan};
 use vk_prover::LaneTape;
 use vk_residue::Residue;
 use vk_seq::Seq;
 use vk_vickrey::{VickreyOutcome, VickreyPlan, outcome};
 use vk_views::{LaneView, moved, view};
-use vk_wire::Shown;
-
-/// The plan of a small auction, the values of its two lists of bids, and a tape.
-#[derive(Drop)]
-struct Lane {
-    plan: Plan,
-    values: Vec<Residue>,
-    others: Vec<Residue>,
-    tape: LaneTape,
-}
+use vk_wire::{Shown, WireTape};
 
 /// What there is of a lane for one bit: the moved tape, the view of the bids with the tape, and
 /// that of the other bids with the moved tape.
@@ -36,102 +29,100 @@ struct Seen {
 }
 
 /// The case with the values of both lists of bids behind these, and what is seen of the lane.
-pub fn lane_text(alloc: Global, case: &[u8]) -> Tried<Vec<u8>> {
-    let mut text = Vec::new(alloc);
-    push_case(alloc, &mut text, case)?;
-    Ok(text)
+pub fn put_lane(alloc: Global, text: &mut Text, case: &[u8]) -> Tried<()> {
+    let circuit = circuit_of(part_at(case, b'|', 0)?)?;
+    put_parts(text, case, 0, 3)?;
+    let tape = tape_in(alloc, case)?;
+    put_with_tape(alloc, text, case, &circuit, &tape)
 }
 
-fn push_case(alloc: Global, text: &mut Vec<u8>, case: &[u8]) -> Tried<()> {
-    let mut parts = case.split(|byte| *byte == b'|');
-    let plan = parts.next().ok_or(Unreplayed::NoCase)?;
-    let bids = parts.next().ok_or(Unreplayed::NoCase)?;
-    let others = parts.next().ok_or(Unreplayed::NoCase)?;
-    for part in [plan, bids, others] {
-        push_line(text, part)?;
+/// The parts of the case from one place to before another, a line each.
+fn put_parts(text: &mut Text, case: &[u8], first: usize, end: usize) -> Tried<()> {
+    for place in first..end {
+        text.put_line(part_at(case, b'|', place)?);
     }
-    let lane = lane_of(
-        alloc,
-        &circuit_of(plan)?,
-        bids,
-        others,
-        tape_in(alloc, case)?,
-    )?;
-    push_lane(alloc, text, &lane, case)
-}
-
-/// The values of both lists of bids, the tape of the case, and what is seen of the lane.
-fn push_lane(alloc: Global, text: &mut Vec<u8>, lane: &Lane, case: &[u8]) -> Tried<()>
-    requires values { Holds lane.now.plan lane.now.values.items }
-    requires others { Holds lane.now.plan lane.now.others.items }
-    requires one_each { length lane.now.tape.wires ≡ length lane.now.plan.kinds }
-{
-    push_values(text, b"values", lane.values.as_slice())?;
-    push_values(text, b"other-values", lane.others.as_slice())?;
-    for tape in case.split(|byte| *byte == b'|').skip(3) {
-        push_line(text, tape)?;
-    }
-    let first = looked_at(alloc, lane, false)?;
-    let second = looked_at(alloc, lane, true)?;
-    push_seen(text, &lane.tape, &first, &second)
+    Ok(())
 }
 
 /// The circuit of `plan seals N width T winner W price P`.
 fn circuit_of(plan: &[u8]) -> Tried<VickreyPlan> {
     let seals = number_at(plan, 2, 64)?;
     let width = number_at(plan, 4, 40)?;
-    let published = VickreyOutcome {
-        position: number_at(plan, 6, 64)? as u32,
-        price: number_at(plan, 8, u64::MAX)?,
-    };
-    VickreyPlan::new(seals as u32, width as u32, published).ok_or(Unreplayed::NoCase)
+    let position = number_at(plan, 6, 64)? as u32;
+    let price = number_at(plan, 8, u64::MAX)?;
+    let published = VickreyOutcome { position, price };
+    match VickreyPlan::new(seals as u32, width as u32, published) {
+        Some(circuit) => Ok(circuit),
+        None => Err(Unreplayed::NoCase),
+    }
 }
 
 /// The tape of the parts that begin with `tape`, one wire each.
 fn tape_in(alloc: Global, case: &[u8]) -> Tried<LaneTape> {
     let mut wires = Seq::new(alloc);
-    for part in case.split(|byte| *byte == b'|') {
+    put_tapes(&mut wires, case)?;
+    Ok(LaneTape { wires })
+}
+
+/// Appends the tapes of the parts that begin with `tape`.
+fn put_tapes(wires: &mut Seq<WireTape>, case: &[u8]) -> Tried<()> {
+    for place in 0..parts_of(case, b'|') {
+        let part = part_at(case, b'|', place)?;
         if behind_word(part, b"tape").is_some() {
             wires.push(tape_of(part, 1)?)?;
         }
     }
-    Ok(LaneTape { wires })
+    Ok(())
 }
 
-/// The lane of these two lists of bids. An error where they are not of the width and the outcome.
-fn lane_of(
+/// The values of both lists of bids, and what is seen of the lane with this tape.
+fn put_with_tape(
     alloc: Global,
+    text: &mut Text,
+    case: &[u8],
     circuit: &VickreyPlan,
-    bids: &[u8],
-    others: &[u8],
-    tape: LaneTape,
-) -> Tried<Lane>
-    ensures values { IfOk result (λ lane. Holds lane.plan lane.values.items) }
-    ensures others { IfOk result (λ lane. Holds lane.plan lane.others.items) }
-    ensures one_each { IfOk result (λ lane. length lane.tape.wires ≡ length lane.plan.kinds) }
-{
+    tape: &LaneTape,
+) -> Tried<()> {
     let plan = circuit.plan(alloc)?;
+    put_with_plan(alloc, text, case, circuit, &plan, tape)
+}
+
+/// The values of both lists of bids, and what is seen of the lane of this plan.
+fn put_with_plan(
+    alloc: Global,
+    text: &mut Text,
+    case: &[u8],
+    circuit: &VickreyPlan,
+    plan: &Plan,
+    tape: &LaneTape,
+) -> Tried<()>
+    requires { plan.now ≡ vickrey_plan circuit.now.seals circuit.now.width circuit.now.position
+        circuit.now.price }
+{
     if tape.wires.len() != plan.wires() as usize {
         return Err(Unreplayed::NoCase);
     }
-    let values = values_in(alloc, circuit, bids, b"bids")?;
-    let others = values_in(alloc, circuit, others, b"others")?;
-    Ok(Lane {
-        plan,
-        values,
-        others,
-        tape,
-    })
+    let values = values_in(alloc, circuit, part_at(case, b'|', 1)?, b"bids")?;
+    put_with_values(alloc, text, case, circuit, plan, tape, values.as_slice())
 }
 
-/// The numbers behind that word, with spaces between them.
-fn bids_of(alloc: Global, part: &[u8], word: &[u8]) -> Tried<Vec<u64>> {
-    let numbers = behind_word(part, word).ok_or(Unreplayed::NoCase)?;
-    let mut bids = Vec::new(alloc);
-    for number in numbers.split(|byte| *byte == b' ') {
-        bids.push(read_decimal(number, u64::MAX).ok_or(Unreplayed::NoCase)?)?;
-    }
-    Ok(bids)
+/// The values of both lists of bids, of which these are the first, and what is seen of the lane.
+fn put_with_values(
+    alloc: Global,
+    text: &mut Text,
+    case: &[u8],
+    circuit: &VickreyPlan,
+    plan: &Plan,
+    tape: &LaneTape,
+    values: &[Residue],
+) -> Tried<()>
+    requires plan { plan.now ≡ vickrey_plan circuit.now.seals circuit.now.width
+        circuit.now.position circuit.now.price }
+    requires values { Holds plan.now values.now }
+    requires one_each { length tape.now.wires ≡ length plan.now.kinds }
+{
+    let others = values_in(alloc, circuit, part_at(case, b'|', 2)?, b"others")?;
+    put_looks(alloc, text, case, plan, tape, values, others.as_slice())
 }
 
 /// The values of all wires for the bids behind that word.
@@ -140,9 +131,21 @@ fn values_in(alloc: Global, circuit: &VickreyPlan, part: &[u8], word: &[u8]) -> 
         (vickrey_plan circuit.now.seals circuit.now.width circuit.now.position circuit.now.price)
         values.items) }
 {
-    let bids = bids_of(alloc, part, word)?;
+    if behind_word(part, word).is_none() {
+        return Err(Unreplayed::NoCase);
+    }
+    let bids = bids_of(alloc, part)?;
     let values = values_of(alloc, circuit, bids.as_slice())?;
     Ok(values)
+}
+
+/// The numbers behind the first word, with spaces between them.
+fn bids_of(alloc: Global, part: &[u8]) -> Tried<Vec<u64>> {
+    let mut bids = Vec::new(alloc);
+    for place in 1..fields(part) {
+        bids.push(number_at(part, place, u64::MAX)?)?;
+    }
+    Ok(bids)
 }
 
 /// The values of all wires for these bids. An error where they are not of the circuit's width and
@@ -182,81 +185,115 @@ fn inputs_of(alloc: Global, bids: &[u64], width: u32) -> Tried<Vec<Residue>>
     Ok(inputs)
 }
 
-/// What there is of the lane for the bit.
-fn looked_at(alloc: Global, lane: &Lane, bit: bool) -> Tried<Seen>
-    requires values { Holds lane.now.plan lane.now.values.items }
-    requires others { Holds lane.now.plan lane.now.others.items }
-    requires one_each { length lane.now.tape.wires ≡ length lane.now.plan.kinds }
+/// The values of both lists of bids, the tapes, and what is seen of the lane for either bit.
+fn put_looks(
+    alloc: Global,
+    text: &mut Text,
+    case: &[u8],
+    plan: &Plan,
+    tape: &LaneTape,
+    values: &[Residue],
+    others: &[Residue],
+) -> Tried<()>
+    requires values { Holds plan.now values.now }
+    requires others { Holds plan.now others.now }
+    requires one_each { length tape.now.wires ≡ length plan.now.kinds }
 {
-    let values = lane.values.as_slice();
-    let others = lane.others.as_slice();
-    let moved = moved(alloc, &lane.plan, values, others, bit, &lane.tape)?;
-    let again = view(alloc, &lane.plan, others, &moved, bit)?;
-    let view = view(alloc, &lane.plan, values, &lane.tape, bit)?;
+    put_values(text, b"values", values);
+    put_values(text, b"other-values", others);
+    put_parts(text, case, 3, parts_of(case, b'|'))?;
+    let first = looked_at(alloc, plan, tape, values, others, false)?;
+    put_second(alloc, text, plan, tape, values, others, &first)
+}
+
+/// What is seen of the lane for either bit, where this is what there is for the first.
+fn put_second(
+    alloc: Global,
+    text: &mut Text,
+    plan: &Plan,
+    tape: &LaneTape,
+    values: &[Residue],
+    others: &[Residue],
+    first: &Seen,
+) -> Tried<()>
+    requires values { Holds plan.now values.now }
+    requires others { Holds plan.now others.now }
+    requires one_each { length tape.now.wires ≡ length plan.now.kinds }
+{
+    let second = looked_at(alloc, plan, tape, values, others, true)?;
+    put_seen(text, tape, first, &second);
+    Ok(())
+}
+
+/// What there is of the lane for the bit.
+fn looked_at(
+    alloc: Global,
+    plan: &Plan,
+    tape: &LaneTape,
+    values: &[Residue],
+    others: &[Residue],
+    bit: bool,
+) -> Tried<Seen>
+    requires values { Holds plan.now values.now }
+    requires others { Holds plan.now others.now }
+    requires one_each { length tape.now.wires ≡ length plan.now.kinds }
+{
+    let moved = moved(alloc, plan, values, others, bit, tape)?;
+    let again = view(alloc, plan, others, &moved, bit)?;
+    let view = view(alloc, plan, values, tape, bit)?;
     Ok(Seen { moved, view, again })
 }
 
 /// Where a moved tape is another one, what is posted, and what is shown for either bit.
-fn push_seen(text: &mut Vec<u8>, tape: &LaneTape, first: &Seen, second: &Seen) -> Tried<()> {
-    push_moves(text, b"moved0", tape, &first.moved)?;
-    push_moves(text, b"moved1", tape, &second.moved)?;
-    push_values(text, b"posted", first.view.posted.as_slice())?;
-    push_all_shown(text, b"shown0", first.view.shown.as_slice())?;
-    push_all_shown(text, b"shown1", second.view.shown.as_slice())?;
+fn put_seen(text: &mut Text, tape: &LaneTape, first: &Seen, second: &Seen) {
+    put_moves(text, b"moved0 ", tape, &first.moved);
+    put_moves(text, b"moved1 ", tape, &second.moved);
+    put_values(text, b"posted", first.view.posted.as_slice());
+    put_all_shown(text, b"shown0 ", first.view.shown.as_slice());
+    put_all_shown(text, b"shown1 ", second.view.shown.as_slice());
     if second.view.posted.as_slice() != first.view.posted.as_slice() {
-        push_line(text, b"bit 1 posts otherwise")?;
+        text.put_line(b"bit 1 posts otherwise");
     }
-    push_difference(text, first)?;
-    push_difference(text, second)
+    put_difference(text, first);
+    put_difference(text, second);
 }
 
 /// A line where the other bids with the moved tape are seen otherwise.
-fn push_difference(text: &mut Vec<u8>, seen: &Seen) -> Tried<()> {
+fn put_difference(text: &mut Text, seen: &Seen) {
     if seen.again.shown.as_slice() != seen.view.shown.as_slice() {
-        push_line(text, b"the other bids show otherwise")?;
+        text.put_line(b"the other bids show otherwise");
     }
     if seen.again.posted.as_slice() != seen.view.posted.as_slice() {
-        push_line(text, b"the other bids post otherwise")?;
+        text.put_line(b"the other bids post otherwise");
     }
-    Ok(())
 }
 
 /// The wires whose tape is another one once it is moved.
-fn push_moves(text: &mut Vec<u8>, word: &[u8], tape: &LaneTape, moved: &LaneTape) -> Tried<()> {
-    let wires = tape.wires.as_slice().iter().zip(moved.wires.as_slice());
-    for (wire, (tape, moved)) in wires.enumerate() {
-        if moved != tape {
-            push_word(text, word, wire)?;
-            push_moved(text, moved)?;
+fn put_moves(text: &mut Text, word: &[u8], tape: &LaneTape, moved: &LaneTape) {
+    let before = tape.wires.as_slice();
+    let after = moved.wires.as_slice();
+    for wire in 0..after.len() {
+        if wire < before.len() && after[wire] != before[wire] {
+            text.put_number(word, wire as u64);
+            put_moved(text, &after[wire]);
         }
     }
-    Ok(())
 }
 
 /// What is shown of each wire.
-fn push_all_shown(text: &mut Vec<u8>, word: &[u8], all: &[Shown]) -> Tried<()> {
-    for (wire, shown) in all.iter().enumerate() {
-        push_word(text, word, wire)?;
-        push_shown(text, shown)?;
+fn put_all_shown(text: &mut Text, word: &[u8], all: &[Shown]) {
+    for wire in 0..all.len() {
+        text.put_number(word, wire as u64);
+        put_shown(text, &all[wire]);
+        text.put(b"\n");
     }
-    Ok(())
-}
-
-/// The word and the number of a wire.
-fn push_word(text: &mut Vec<u8>, word: &[u8], wire: usize) -> Tried<()> {
-    text.extend_from_slice(word)?;
-    push_space(text)?;
-    push_decimal(text, wire as u64)?;
-    Ok(())
 }
 
 /// The word and the values, as a line.
-fn push_values(text: &mut Vec<u8>, word: &[u8], values: &[Residue]) -> Tried<()> {
-    text.extend_from_slice(word)?;
+fn put_values(text: &mut Text, word: &[u8], values: &[Residue]) {
+    text.put(word);
     for value in values {
-        push_space(text)?;
-        push_decimal(text, value.get())?;
+        text.put_number(b" ", value.get());
     }
-    end_line(text)?;
-    Ok(())
+    text.put(b"\n");
 }

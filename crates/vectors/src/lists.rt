@@ -1,8 +1,8 @@
 // Lists of words, and the residue that is drawn from each.
+use crate::text::Text;
 use std::alloc::Global;
 use vk_cases::{Tried, numbers_in};
 use vk_dice::{ListWords, Words, draw_residue};
-use vk_lines::{end_line, push_decimal};
 
 /// How many words a draw looks at, at most.
 const MOST_WORDS: usize = 4;
@@ -11,24 +11,32 @@ const MOST_WORDS: usize = 4;
 const MARK: u64 = 1;
 
 /// The words, the residue that is drawn from them or `dry`, and how many words that took.
-pub fn draw_text(alloc: Global, case: &[u8]) -> Tried<Vec<u8>> {
+pub fn put_draw(alloc: Global, text: &mut Text, case: &[u8]) -> Tried<()> {
+    text.put(case);
     let mut list = numbers_in(alloc, case)?;
+    put_zeros(&mut list)?;
+    let mut words = ListWords::of(alloc, list.as_slice())?;
+    put_drawn(text, &mut words);
+    Ok(())
+}
+
+/// Appends the zeros that follow the words, and the mark.
+fn put_zeros(list: &mut Vec<u64>) -> Tried<()> {
     for _ in list.len()..MOST_WORDS {
         list.push(0)?;
     }
     list.push(MARK)?;
-    let mut words = ListWords::of(alloc, list.as_slice())?;
-    let drawn = draw_residue(&mut words);
-    let mut text = Vec::from_slice(alloc, case)?;
-    text.extend_from_slice(b" | ")?;
-    match drawn {
-        Ok(residue) => push_decimal(&mut text, residue.get())?,
-        Err(_dry) => text.extend_from_slice(b"dry")?,
+    Ok(())
+}
+
+/// The residue that is drawn from the words or `dry`, and how many words that took.
+fn put_drawn(text: &mut Text, words: &mut ListWords) {
+    match draw_residue(words) {
+        Ok(residue) => text.put_number(b" | ", residue.get()),
+        Err(_dry) => text.put(b" | dry"),
     }
-    text.extend_from_slice(b" | ")?;
-    push_decimal(&mut text, words_taken(&mut words))?;
-    end_line(&mut text)?;
-    Ok(text)
+    text.put_number(b" | ", words_taken(words));
+    text.put(b"\n");
 }
 
 /// How many words were taken of those before the mark.

@@ -9,16 +9,19 @@ mod couples;
 mod fours;
 mod lanes;
 mod lists;
+mod parts;
 mod sales;
 mod shares;
 mod streams;
+mod text;
 mod units;
 mod views;
 mod wires;
 
+use crate::text::Text;
 use std::alloc::Global;
 use std::process::ExitCode;
-use vk_cases::{Form, Tried, replay_forms};
+use vk_cases::{Form, Tried, Unreplayed, numbers_in, replay_forms, word_at};
 use vk_io::Shelf;
 
 /// What a file of cases has, one case a line.
@@ -78,22 +81,55 @@ impl Form for Cases {
     }
 
     fn text<S: Shelf>(&self, alloc: Global, _shelf: &mut S, case: &[u8]) -> Tried<Vec<u8>> {
-        match self {
-            Cases::Streams => streams::stream_text(alloc, case),
-            Cases::Lists => lists::draw_text(alloc, case),
-            Cases::Wires => wires::wire_text(alloc, case),
-            Cases::Fours => fours::hashed_text(alloc, case),
-            Cases::Bids => bids::outcome_text(alloc, case),
-            Cases::Sales => sales::sale_text(alloc, case),
-            Cases::Rows => sales::rows_text(alloc, case),
-            Cases::Units => units::units_text(alloc, case),
-            Cases::Tables => couples::table_text(alloc, case),
-            Cases::Eithers => couples::either_text(alloc, case),
-            Cases::Shares => shares::share_text(alloc, case),
-            Cases::Coins => coins::bits_text(alloc, case),
-            Cases::Views => views::view_text(alloc, case),
-            Cases::Lanes => lanes::lane_text(alloc, case),
-        }
+        let mut text = Text::new(alloc);
+        put_case(alloc, &mut text, self, case)?;
+        let bytes = text.into_bytes()?;
+        Ok(bytes)
+    }
+}
+
+/// The case, and what comes of it.
+fn put_case(alloc: Global, text: &mut Text, form: &Cases, case: &[u8]) -> Tried<()> {
+    match form {
+        Cases::Streams => streams::put_stream(text, case),
+        Cases::Lists => lists::put_draw(alloc, text, case),
+        Cases::Wires => wires::put_wire(text, case),
+        Cases::Fours => fours::put_four(text, case),
+        Cases::Eithers => couples::put_either(alloc, text, case),
+        Cases::Shares => shares::put_share(alloc, text, case),
+        Cases::Coins => coins::put_bits(alloc, text, case),
+        Cases::Views => views::put_view(text, case),
+        Cases::Lanes => lanes::put_lane(alloc, text, case),
+        _ => put_listed(alloc, text, form, case),
+    }
+}
+
+/// A case that has a list of numbers, and what comes of it.
+fn put_listed(alloc: Global, text: &mut Text, form: &Cases, case: &[u8]) -> Tried<()> {
+    text.put(case);
+    let place = match form {
+        Cases::Tables => 1,
+        _ => 0,
+    };
+    let numbers = numbers_in(alloc, word_at(case, place)?)?;
+    put_numbers(alloc, text, form, case, numbers.as_slice())
+}
+
+/// What comes of a case that has these numbers.
+fn put_numbers(
+    alloc: Global,
+    text: &mut Text,
+    form: &Cases,
+    case: &[u8],
+    numbers: &[u64],
+) -> Tried<()> {
+    match form {
+        Cases::Bids => bids::put_outcome(text, numbers),
+        Cases::Sales => sales::put_sale(alloc, text, case, numbers),
+        Cases::Rows => sales::put_rows(alloc, text, case, numbers),
+        Cases::Units => units::put_units(alloc, text, case, numbers),
+        Cases::Tables => couples::put_table(alloc, text, case, numbers),
+        _ => Err(Unreplayed::NoCase),
     }
 }
 

@@ -2,55 +2,53 @@
 // drawn from a seed.
 ghost use Rattle.std.specs.Prelude.{◌≤◌, IfOk, length};
 
+use crate::text::Text;
 use std::alloc::Global;
 use vk_cases::{Tried, Unreplayed, id_at, key_at, number_at, word_at};
 use vk_coin::{Share, draw_share, share_commit};
 use vk_dice::ChaChaWords;
-use vk_lines::{end_line, push_hex, push_space};
-use vk_reply::{bits_of, push_bits};
+use vk_reply::bits_of;
 use vk_seq::Seq;
 
 /// The number of the first auditor's stream is one more.
 const STREAMS: u64 = 131072;
 
 /// The case, its key and its bits where the share is drawn, and the commitment to the share.
-pub fn share_text(alloc: Global, case: &[u8]) -> Tried<Vec<u8>> {
-    let mut text = Vec::from_slice(alloc, case)?;
-    let is_drawn = word_at(case, 0)? == b"draw".as_slice();
-    let share = if is_drawn {
-        drawn_share(alloc, case)?
+pub fn put_share(alloc: Global, text: &mut Text, case: &[u8]) -> Tried<()> {
+    text.put(case);
+    if word_at(case, 0)? == b"draw".as_slice() {
+        let share = drawn_share(alloc, case)?;
+        text.put_hex(b" | ", &share.key);
+        text.put_bits(b" ", share.bits.as_slice());
+        put_commit(text, &share);
     } else {
-        given_share(alloc, case)?
-    };
-    push_share(&mut text, is_drawn, &share)?;
-    Ok(text)
+        let share = given_share(alloc, case)?;
+        put_commit(text, &share);
+    }
+    Ok(())
 }
 
-/// The commitment to a share, behind its key and its bits where these aren't given.
-fn push_share(text: &mut Vec<u8>, is_drawn: bool, share: &Share) -> Tried<()>
+/// The commitment to a share, at the end of a line.
+fn put_commit(text: &mut Text, share: &Share)
     requires { length share.now.bits ≤ 64 }
 {
-    text.extend_from_slice(b" | ")?;
-    if is_drawn {
-        push_hex(text, &share.key)?;
-        push_space(text)?;
-        push_bits(text, share.bits.as_slice())?;
-        text.extend_from_slice(b" | ")?;
-    }
-    push_hex(text, &share_commit(share))?;
-    end_line(text)?;
-    Ok(())
+    text.put_hex(b" | ", &share_commit(share));
+    text.put(b"\n");
 }
 
 /// The share of `share AUCTION AUDITOR KEY BITS`.
 fn given_share(alloc: Global, case: &[u8]) -> Tried<Share>
     ensures { IfOk result (λ share. length share.bits ≤ 64) }
 {
+    let auction = id_at(case, 1)?;
+    let auditor = number_at(case, 2, 16)?;
+    let key = key_at(case, 3)?;
+    let bits = bits_in(alloc, word_at(case, 4)?)?;
     Ok(Share {
-        auction: id_at(case, 1)?,
-        auditor: number_at(case, 2, 16)? as u16,
-        bits: bits_in(alloc, word_at(case, 4)?)?,
-        key: key_at(case, 3)?,
+        auction,
+        auditor: auditor as u16,
+        bits,
+        key,
     })
 }
 
@@ -74,5 +72,8 @@ fn drawn_share(alloc: Global, case: &[u8]) -> Tried<Share>
 pub fn bits_in(alloc: Global, word: &[u8]) -> Tried<Seq<bool>>
     ensures { IfOk result (λ bits. length bits ≤ 64) }
 {
-    bits_of(alloc, word)?.ok_or(Unreplayed::NoCase)
+    match bits_of(alloc, word)? {
+        Some(bits) => Ok(bits),
+        None => Err(Unreplayed::NoCase),
+    }
 }

@@ -1,73 +1,57 @@
 // Streams of words: the first of them, some far ones, and what is drawn from the start.
-use std::alloc::Global;
+use crate::text::Text;
 use vk_cases::{Tried, Unreplayed, id_at, key_at, number_at};
 use vk_dice::{ChaChaWords, Words, draw_bit, draw_key, draw_residue};
-use vk_lines::{end_line, push_decimal, push_hex, push_line, push_space};
 
 /// The case, and what its stream gives.
-pub fn stream_text(alloc: Global, case: &[u8]) -> Tried<Vec<u8>> {
+pub fn put_stream(text: &mut Text, case: &[u8]) -> Tried<()> {
     let seed = key_at(case, 1)?;
     let auction = id_at(case, 2)?;
     let stream = number_at(case, 3, u64::MAX)?;
-    let mut text = Vec::new(alloc);
-    push_line(&mut text, case)?;
-    push_words(&mut text, &mut ChaChaWords::of(&seed, &auction, stream))?;
-    push_draws(&mut text, &mut ChaChaWords::of(&seed, &auction, stream))?;
-    Ok(text)
+    text.put_line(case);
+    put_words(text, &mut ChaChaWords::of(&seed, &auction, stream));
+    put_draws(text, &mut ChaChaWords::of(&seed, &auction, stream))
 }
 
 /// The first twelve words, and three that stand far ahead.
-fn push_words(text: &mut Vec<u8>, words: &mut ChaChaWords) -> Tried<()> {
-    text.extend_from_slice(b"words")?;
+fn put_words(text: &mut Text, words: &mut ChaChaWords) {
+    text.put(b"words");
     for _ in 0..12 {
-        push_space(text)?;
-        push_decimal(text, words.next())?;
+        text.put_number(b" ", words.next());
     }
-    end_line(text)?;
-    text.extend_from_slice(b"far")?;
-    push_far(text, words, 12, 100)?;
-    push_far(text, words, 101, 1000)?;
-    push_far(text, words, 1001, 4095)?;
-    end_line(text)?;
-    Ok(())
+    text.put(b"\nfar");
+    put_far(text, words, 12, 100);
+    put_far(text, words, 101, 1000);
+    put_far(text, words, 1001, 4095);
+    text.put(b"\n");
 }
 
 /// The word of that number, where those before `taken` were taken.
-fn push_far(text: &mut Vec<u8>, words: &mut ChaChaWords, taken: u64, number: u64) -> Tried<()> {
+fn put_far(text: &mut Text, words: &mut ChaChaWords, taken: u64, number: u64) {
     for _ in taken..number {
         words.next();
     }
-    push_space(text)?;
-    push_decimal(text, number)?;
-    text.extend_from_slice(b":")?;
-    push_decimal(text, words.next())?;
-    Ok(())
+    text.put_number(b" ", number);
+    text.put_number(b":", words.next());
 }
 
 /// Six draws in a row: a residue, a key, a bit, a residue, a key and a key.
-fn push_draws(text: &mut Vec<u8>, words: &mut ChaChaWords) -> Tried<()> {
-    text.extend_from_slice(b"draws")?;
-    push_residue(text, words)?;
-    push_key(text, words)?;
-    push_space(text)?;
-    push_decimal(text, u64::from(draw_bit(words)))?;
-    push_residue(text, words)?;
-    push_key(text, words)?;
-    push_key(text, words)?;
-    end_line(text)?;
+fn put_draws(text: &mut Text, words: &mut ChaChaWords) -> Tried<()> {
+    text.put(b"draws");
+    put_residue(text, words)?;
+    text.put_hex(b" ", &draw_key(words));
+    text.put_number(b" ", u64::from(draw_bit(words)));
+    put_residue(text, words)?;
+    text.put_hex(b" ", &draw_key(words));
+    text.put_hex(b" ", &draw_key(words));
+    text.put(b"\n");
     Ok(())
 }
 
-fn push_residue(text: &mut Vec<u8>, words: &mut ChaChaWords) -> Tried<()> {
-    let residue = draw_residue(words).map_err(|_dry| Unreplayed::NoCase)?;
-    push_space(text)?;
-    push_decimal(text, residue.get())?;
-    Ok(())
-}
-
-fn push_key(text: &mut Vec<u8>, words: &mut ChaChaWords) -> Tried<()> {
-    let key = draw_key(words);
-    push_space(text)?;
-    push_hex(text, &key)?;
+fn put_residue(text: &mut Text, words: &mut ChaChaWords) -> Tried<()> {
+    match draw_residue(words) {
+        Ok(residue) => text.put_number(b" ", residue.get()),
+        Err(_dry) => return Err(Unreplayed::NoCase),
+    }
     Ok(())
 }

@@ -1,53 +1,58 @@
 // Wires: the commitments that are made, what is shown for each bit, and the half that this reads.
 ghost use Rattle.std.specs.Prelude.{◌≡◌, ◌≤◌, ◌%◌, IfOk};
 ghost use Rattle.vk_plan.specs.Plans.{HasWeight, MayHave};
+ghost use Rattle.vk_wire.specs.Values.{CanBeMade};
 
-use std::alloc::Global;
+use crate::text::Text;
 use vk_cases::{Tried, Unreplayed, id_at, key_at, number_at, residue_at, word_at};
 use vk_commit::{Opening, Place};
-use vk_lines::{end_line, push_decimal, push_digests_line, push_hex, push_number_line, push_space};
 use vk_plan::WireKind;
 use vk_residue::Residue;
-use vk_wire::{Shown, WireTape, make, read, show};
+use vk_wire::{HonestWire, Shown, WireCom, WireTape, make, read, show};
 
 /// The case, its commitments, and for each bit what is shown and read.
-pub fn wire_text(alloc: Global, case: &[u8]) -> Tried<Vec<u8>> {
-    let mut text = Vec::new(alloc);
-    push_wire(&mut text, case)?;
-    Ok(text)
+pub fn put_wire(text: &mut Text, case: &[u8]) -> Tried<()> {
+    let wire = wire_of(case)?;
+    let at = place_word(wire.kind);
+    put_words(text, case, at, at + 5, at + 10)?;
+    let coms = make(wire.kind, &wire.place, wire.value, &wire.tape);
+    text.put_hex(b"coms ", &coms.first);
+    text.put_hex(b" ", &coms.second);
+    text.put(b"\n");
+    put_bit(text, &wire, &coms, false)?;
+    put_bit(text, &wire, &coms, true)
 }
 
-fn push_wire(text: &mut Vec<u8>, case: &[u8]) -> Tried<()> {
-    let kind = kind_of(case, 2)?;
-    let at = place_word(kind);
-    let value = value_of(case, kind)?;
-    let place = place_of(case, at)?;
-    let tape = tape_of(case, at + 5)?;
-    let coms = make(kind, &place, value, &tape);
-    push_words(text, case, 0, at)?;
-    push_words(text, case, at, at + 5)?;
-    push_words(text, case, at + 5, at + 10)?;
-    push_digests_line(text, b"coms", &coms.first, &coms.second)?;
-    for bit in [false, true] {
-        let shown = show(kind, value, &tape, bit);
-        text.extend_from_slice(if bit { b"show1" } else { b"show0" })?;
-        push_shown(text, &shown)?;
-        let half = read(kind, &place, &coms, &shown, bit).map_err(|_fault| Unreplayed::NoCase)?;
-        push_number_line(text, half_word(bit), half.get())?;
+/// What is shown for the bit, and the half that this reads.
+fn put_bit(text: &mut Text, wire: &HonestWire, coms: &WireCom, bit: bool) -> Tried<()>
+    requires { CanBeMade wire.now }
+{
+    let shown = show(wire.kind, wire.value, &wire.tape, bit);
+    text.put(if bit { b"show1" } else { b"show0" });
+    put_shown(text, &shown);
+    match read(wire.kind, &wire.place, coms, &shown, bit) {
+        Ok(half) => text.put_number(if bit { b"\nhalf1 " } else { b"\nhalf0 " }, half.get()),
+        Err(_fault) => return Err(Unreplayed::NoCase),
     }
+    text.put(b"\n");
     Ok(())
 }
 
-/// The place of the case's wire, and what is shown of it for the bit.
-pub fn shown_of(case: &[u8], bit: bool) -> Tried<(Place, Shown)>
-    ensures { IfOk result (λ found. found.0.slot % 2 ≡ 0) }
+/// The wire of the case.
+pub fn wire_of(case: &[u8]) -> Tried<HonestWire>
+    ensures { IfOk result CanBeMade }
 {
     let kind = kind_of(case, 2)?;
     let at = place_word(kind);
-    let value = value_of(case, kind)?;
+    let value = value_at(case, at - 1, kind)?;
     let place = place_of(case, at)?;
     let tape = tape_of(case, at + 5)?;
-    Ok((place, show(kind, value, &tape, bit)))
+    Ok(HonestWire {
+        kind,
+        place,
+        value,
+        tape,
+    })
 }
 
 /// The kind of the wire. A pair's number stands at that place.
@@ -61,24 +66,14 @@ pub fn kind_of(case: &[u8], number: usize) -> Tried<WireKind>
     Ok(WireKind::Pair(i as u32))
 }
 
-/// Where the word `place` stands in the case.
+/// Where the word `place` stands in the case, behind the value.
 fn place_word(kind: WireKind) -> usize
-    ensures { result ≤ 5 }
+    ensures some { 1 ≤ result }
+    ensures few { result ≤ 5 }
 {
     match kind {
         WireKind::Split => 4,
         WireKind::Pair(_) => 5,
-    }
-}
-
-/// The value of the wire, which stands before the word `place`.
-fn value_of(case: &[u8], kind: WireKind) -> Tried<Residue>
-    requires { HasWeight kind }
-    ensures { IfOk result (MayHave kind) }
-{
-    match kind {
-        WireKind::Split => value_at(case, 3, kind),
-        WireKind::Pair(_) => value_at(case, 4, kind),
     }
 }
 
@@ -136,49 +131,50 @@ pub fn tape_of(case: &[u8], at: usize) -> Tried<WireTape>
     })
 }
 
-/// The words of the case from one place to before another, as a line.
-pub fn push_words(text: &mut Vec<u8>, case: &[u8], first: usize, end: usize) -> Tried<()> {
-    for place in first..end {
-        if first < place {
-            push_space(text)?;
-        }
-        text.extend_from_slice(word_at(case, place)?)?;
+/// The words of the case before the last of these places, as lines: others than the first begin at
+/// the first and at the second place.
+pub fn put_words(
+    text: &mut Text,
+    case: &[u8],
+    first: usize,
+    second: usize,
+    end: usize,
+) -> Tried<()> {
+    for place in 0..end {
+        text.put(mark_before(place, first, second));
+        text.put(word_at(case, place)?);
     }
-    end_line(text)?;
+    text.put(b"\n");
     Ok(())
 }
 
-fn half_word(bit: bool) -> &'static [u8] {
-    if bit { b"half1" } else { b"half0" }
+/// What stands before the word at a place.
+fn mark_before(place: usize, first: usize, second: usize) -> &'static [u8] {
+    if place == 0 {
+        b""
+    } else if place == first || place == second {
+        b"\n"
+    } else {
+        b" "
+    }
 }
 
 /// What is shown, behind a space: a half, both entries, or which entry is spent and that one.
-pub fn push_shown(text: &mut Vec<u8>, shown: &Shown) -> Tried<()> {
+pub fn put_shown(text: &mut Text, shown: &Shown) {
     match shown {
-        Shown::Half(opening) => {
-            text.extend_from_slice(b" h")?;
-            push_opening(text, opening)?;
-        }
+        Shown::Half(opening) => put_opening(text, b" h ", opening),
         Shown::Whole(first, second) => {
-            text.extend_from_slice(b" a")?;
-            push_opening(text, first)?;
-            push_opening(text, second)?;
+            put_opening(text, b" a ", first);
+            put_opening(text, b" ", second);
         }
         Shown::Spent { second, opening } => {
-            text.extend_from_slice(b" s ")?;
-            push_decimal(text, u64::from(*second))?;
-            push_opening(text, opening)?;
+            put_opening(text, if *second { b" s 1 " } else { b" s 0 " }, opening);
         }
     }
-    end_line(text)?;
-    Ok(())
 }
 
-/// The key and the value of an opening, each behind a space.
-fn push_opening(text: &mut Vec<u8>, opening: &Opening) -> Tried<()> {
-    push_space(text)?;
-    push_hex(text, &opening.key)?;
-    push_space(text)?;
-    push_decimal(text, opening.value.get())?;
-    Ok(())
+/// A mark, and behind it the key and the value of an opening.
+fn put_opening(text: &mut Text, mark: &[u8], opening: &Opening) {
+    text.put_hex(mark, &opening.key);
+    text.put_number(b" ", opening.value.get());
 }
