@@ -1,6 +1,6 @@
 -- What a whole run keeps of its promises on the house, on a ceremony, on a seal, and on words of no
 -- form.
-use Rattle.std.proofs.Common.{ap, sym, ◌∙◌, ◌≡◌, ◌≢◌, ℕ, List, Option, Some, None, IfSome, IsSomeAnd, Result, Ok, Err, refl, subst, inl, inr, ◌^◌, length, Bool, false, [], ◌≤◌}
+use Rattle.std.proofs.Common.{ap, sym, ◌∙◌, ◌≡◌, ◌≢◌, ℕ, List, Option, Some, None, IfSome, IsSomeAnd, Result, Ok, Err, refl, subst, inl, inr, ◌^◌, length, false, ◌≤◌}
 use Rattle.std.specs.Prelude.{◌⊎◌, option_map}
 use Rattle.std.specs.FinMap.{get}
 use Rattle.std.proofs.lemmas.Option.{same_Some}
@@ -13,26 +13,25 @@ use Rattle.vk_lines.specs.Tokens.{word_of}
 use Rattle.vk_keeper.specs.Ledgers.{Ledger}
 use Rattle.vk_words.specs.Coins.{CoinWords}
 use Rattle.vk_words.specs.Commands.{Coin, CommandWords, Seal, command_words}
-use Rattle.vk_words.specs.Orders.{SealWords, HouseWords}
-use Rattle.vk_effect.specs.Effects.{Effect, Outside, outside, says, stores, SaidValue, IsSaid, Stores}
+use Rattle.vk_words.specs.Orders.{SealWords}
+use Rattle.vk_effect.specs.Effects.{Effect, Outside, outside, says, stores, SaidValue, IsSaid}
 use Rattle.vk_effect.specs.Ends.{Done}
 use Rattle.vk_effect.specs.NamedFiles.{missing_said, too_long_said}
 use Rattle.vk_effect.specs.Reading.{begun_in, from_first}
 use Rattle.vk_effect.proofs.NamedFiles.{begun_long, begun_short, same_Err}
-use Rattle.vk_auctioneer.specs.Effects.{house_effect}
 use Rattle.vk_ceremony.specs.Acts.{PerformsAll}
-use Rattle.vk_ceremony.specs.Ceremonies.{Ceremony, EndsAll, ceremony_behind, ceremony_from, ceremony_on, closed, closing_said, ended_by}
+use Rattle.vk_ceremony.specs.Ceremonies.{Ceremony, EndsAll, ceremony_behind, ceremony_on, closed, closing_said}
 use Rattle.vk_ceremony.specs.Forms.{fault_by, script_table}
-use Rattle.vk_ceremony.specs.Runs.{orders_in}
-use Rattle.vk_ceremony.specs.Scripts.{behind_heading, heading, script_begun, script_at}
+use Rattle.vk_ceremony.specs.Runs.{orders_behind, orders_in}
+use Rattle.vk_ceremony.specs.Scripts.{behind_heading, heading, script_begun}
 use Rattle.vk_ceremony.proofs.Agreeing.{script_fault}
-use Rattle.vk_ceremony.proofs.Each.{from_each}
+use Rattle.vk_app.proofs.Saying.{closes_behind}
 use Rattle.vk_ceremony.proofs.Performing.{ceremony_performs_all}
 use Rattle.vk_coins.specs.Deeds.{coin_on}
 use Rattle.vk_coins.specs.Meaning.{MakesChallenge}
 use Rattle.vk_coins.proofs.Made.{makes}
 use Rattle.vk_app.specs.Commands.{Command, CommandEndsFreely, EndsWork, Script, usage_said, work_of, work_on}
-use Rattle.vk_app.specs.Promises.{CeremonyIsDone, HoldsCeremony, KeepsHouse, TellsUsage}
+use Rattle.vk_app.specs.Promises.{CeremonyIsDone, HoldsCeremony, KeepsHouse, TellsUsage, closing_behind}
 use Rattle.vk_app.specs.Sealing.{Seals, seal_effect, seal_on}
 use Rattle.vk_app.proofs.Sealing.{seals}
 use Rattle.vk_app.proofs.Served.{command_done, serves}
@@ -42,31 +41,6 @@ neither P status (inl failed) no_fault no_want = absurd (no_fault failed)
 neither P status (inr wanting) no_fault no_want = absurd (no_want wanting)
 
 -- ---- what a ceremony says for its script
-
--- it says it at its end, or a command ended it, and nothing more is said
-abbrev Closes : (Bool → SaidValue) → Ceremony → Type 0
-Closes closing whole = ((refused : Bool) × (whole.closing ≡ closing refused))
-    ⊎ (whole.closing.text ≡ [])
-
-each_some : {X : Type 0} (P : X → Type 0) → ((x : X) → P x) → (found : Option X) → IfSome found P
-each_some P each None = tt
-each_some P each (Some x) = each x
-
-closes_from : (closing : Bool → SaidValue) (refused : Bool) (orders : List HouseWords)
-    (old : Stores) → IfSome (ceremony_from closing refused orders old) (Closes closing)
-closes_from closing =
-    from_each (Closes closing) (λ effect later is. is) closing (λ refused. inl (refused, refl))
-    (λ order old. each_some (λ effect. Closes closing (ended_by effect)) (λ effect. inr refl)
-    (house_effect old.files old.ledger order))
-
--- by what the first line is, and the fault line that follows from it
-closes_by : (script : List ℕ) (old : Stores) (read : Result (Unit × Rest) ℕ)
-    → IfSome (ceremony_behind script old (behind_heading script read))
-    (Closes (closing_said script (fault_by script read)))
-closes_by script old (Ok read) =
-    closes_from (closing_said script (script_at script read.1).fault) false
-    (script_at script read.1).orders old
-closes_by script old (Err number) = inl (false, refl)
 
 -- a script by what its file is
 begun_script : (files : Files) (script : List ℕ) (begun : Result Rest SaidValue)
@@ -84,21 +58,30 @@ held_script files script file is short =
     begun_script files script (Ok (from_first file))
     (ap (begun_in script) is ∙ begun_short script file short)
 
-of_some : {X : Type 0} (P : X → Type 0) (found : Option X) (x : X) → found ≡ Some x → IfSome found P
-    → P x
-of_some P found x is each = subst (λ f. IfSome f P) is each
+of_some : {X : Type 0} (P : X → Type 0) (found : Option X) (x : X) → found ≡ Some x
+    → IsSomeAnd found P → P x
+of_some P found x is told = subst (λ f. IsSomeAnd f P) is told
 
-closes_so : (files : Files) (old : Stores) (script file : List ℕ) (whole : Ceremony)
+-- by its acts, and by the fault line of its file
+closes_so : (files : Files) (ledger : Ledger) (script file : List ℕ) (whole : Ceremony)
+    (taken : Option (List ℕ)) (new : Outside)
+    (acts : PerformsAll (orders_in files script) files ledger whole.closing.text taken new)
     → get files script ≡ Some file → length file ≤ 2 ^ 30
-    → ceremony_behind script old (script_begun files script) ≡ Some whole
-    → Closes (closing_said script (fault_line (script_table script) file)) whole
-closes_so files old script file whole is short at =
+    → ceremony_on (Some files) (Some ledger) script ≡ Some whole
+    → whole.closing
+    ≡ closing_behind (closing_said script (fault_line (script_table script) file)) false acts.acts
+closes_so files ledger script file whole taken new acts is short at =
     let read = line_by (word_of heading) (from_first file) in
-    subst (λ fault. Closes (closing_said script fault) whole) (sym (script_fault script file))
-    (of_some (Closes (closing_said script (fault_by script read)))
-    (ceremony_behind script old (behind_heading script read)) whole
-    (ap (ceremony_behind script old) (sym (held_script files script file is short)) ∙ at)
-    (closes_by script old read))
+    let begun = held_script files script file is short in
+    subst (λ fault. whole.closing ≡ closing_behind (closing_said script fault) false acts.acts)
+    (sym (script_fault script file))
+    (of_some
+    (λ one. one.closing
+    ≡ closing_behind (closing_said script (fault_by script read)) false acts.acts)
+    (ceremony_behind script (stores (Some files) (Some ledger)) (behind_heading script read)) whole
+    (ap (ceremony_behind script (stores (Some files) (Some ledger))) (sym begun) ∙ at)
+    (closes_behind script read acts.acts acts.later files ledger acts.files_left acts.ledger_left
+    (ap (orders_behind script) (sym begun) ∙ acts.orders_are) acts.followed acts.done))
 
 module _ (files : Files) (ledger : Ledger) (words : List (List ℕ)) (status : ℕ) (old : Option (List ℕ)) (new : Outside) where
   abbrev EndsSo : Result ℕ OutsideErr → Option CommandWords → Type 0
@@ -159,8 +142,8 @@ module _ (files : Files) (ledger : Ledger) (words : List (List ℕ)) (status : �
     too_long = λ file held long. closed_by script (too_long_said script) (script_begun files script)
         whole (unread_script script (too_long_said script) (Some file) held
         (begun_long script file long)) is ends;
-    closing = λ file held short. closes_so files (stores (Some files) (Some ledger)) script file
-        whole held short is;
+    closing = λ file held short. closes_so files ledger script file whole old new (performs ends)
+        held short is;
   }
 
   pub ended_ceremony : EndsSo (Ok status) (command_words words)

@@ -1,6 +1,6 @@
 -- What `run` promises, one record for each family of commands, over files and a ledger that are
 -- modelled.
-use Rattle.std.specs.Prelude.{◌≡◌, ◌≢◌, ◌⊎◌, ℕ, ◌^◌, ◌<◌, ◌≤◌, Bool, true, List, [], ◌∷◌, ◌++◌, codes, length, Option, Some, None, IfSome}
+use Rattle.std.specs.Prelude.{◌≡◌, ◌≢◌, ◌⊎◌, ℕ, ◌^◌, ◌<◌, ◌≤◌, ◌||◌, Bool, true, false, if◌then◌else◌, List, [], ◌∷◌, ◌++◌, codes, length, Option, Some, None, IfSome}
 use Rattle.std.specs.FinMap.{get}
 use Rattle.std.specs.List.{AllByRecursion}
 use Rattle.vk_io.specs.Files.{Files, Modelled}
@@ -9,7 +9,7 @@ use Rattle.vk_words.specs.Commands.{CommandWords, ClaimExtract, ClaimVerify, Con
 use Rattle.vk_words.specs.Commands as commands
 use Rattle.vk_words.specs.Names.{ConfrontWords, ExtractWords, VerifyWords, is_name}
 use Rattle.vk_words.specs.Orders.{HouseWords}
-use Rattle.vk_effect.specs.Effects.{IsSaid, Outside, outside, stores}
+use Rattle.vk_effect.specs.Effects.{IsSaid, Outside, SaidValue, outside, stores}
 use Rattle.vk_effect.specs.Ends.{Done, Stopped}
 use Rattle.vk_effect.specs.NamedFiles.{missing_said, too_long_said}
 use Rattle.vk_board.specs.declared.front.Front.{Front}
@@ -25,9 +25,9 @@ use Rattle.vk_claim.specs.declared.front.ClaimFront.{ClaimFront}
 use Rattle.vk_claims.specs.Soundness.{BeginsWithClaim, TellsValues}
 use Rattle.vk_claims.specs.ClaimSamples.{OfSomeMatching}
 use Rattle.vk_auctioneer.specs.Leaving.{LeavesFiles}
-use Rattle.vk_ceremony.specs.Acts.{PerformsAll}
+use Rattle.vk_ceremony.specs.Acts.{HouseAct, PerformsAll}
 use Rattle.vk_lines.specs.Forms.{fault_line}
-use Rattle.vk_ceremony.specs.Ceremonies.{Ceremony, ceremony_on, closing_said}
+use Rattle.vk_ceremony.specs.Ceremonies.{Ceremony, ceremony_on, closing_said, goes_on, is_refusal}
 use Rattle.vk_ceremony.specs.Forms.{script_table}
 use Rattle.vk_ceremony.specs.Leaving.{CeremonyLeaves}
 use Rattle.vk_ceremony.specs.Runs.{orders_in}
@@ -209,10 +209,21 @@ pub record KeepsHouse (files : Files) (ledger : Ledger) (words : List (List ℕ)
 
 -- ---- a ceremony's
 
+-- what is said behind these acts for the ceremony itself, where it is told whether one was refused
+-- before them: an act that none follows ends it with its status, and nothing more is said. Behind
+-- all others it is what is said by whether one of them was refused
+abbrev pub closing_behind : (Bool → SaidValue) → Bool → List HouseAct → SaidValue
+closing_behind closing refused [] = closing refused
+closing_behind closing refused (act ∷ acts) =
+    if goes_on act.said.status
+    then closing_behind closing (refused || is_refusal act.said.status) acts
+    else record { status = act.said.status; text = [] }
+
 -- it came to its end: its commands were done one after another up to the first that ends it, what
 -- they say was put, and then what is said for the script itself, of which this is the status. A
 -- script that isn't held, or is too long, is said to be so. Of another its fault line by its table
--- is said, or that it has none; or a command ended it, and nothing more is said
+-- is said, or that it has none, and then whether one of its commands that were done was refused; or
+-- the last of them ended it with its status, and nothing more is said
 pub record CeremonyIsDone (script : List ℕ) (files : Files) (ledger : Ledger) (status : ℕ)
     (held : Option Files) (kept : Option Ledger) (old new : Option (List ℕ)) : Type 0 where
   pub whole : Ceremony
@@ -224,9 +235,8 @@ pub record CeremonyIsDone (script : List ℕ) (files : Files) (ledger : Ledger) 
   pub too_long : (file : List ℕ) → get files script ≡ Some file → 2 ^ 30 < length file
       → IsSaid (too_long_said script) status old new
   pub closing : (file : List ℕ) → get files script ≡ Some file → length file ≤ 2 ^ 30
-      → ((refused : Bool) × (whole.closing
-      ≡ closing_said script (fault_line (script_table script) file) refused))
-      ⊎ (whole.closing.text ≡ [])
+      → whole.closing ≡ closing_behind
+      (closing_said script (fault_line (script_table script) file)) false acts.acts
 
 abbrev pub HoldsCeremony : Files → Ledger → List (List ℕ) → ℕ → Option Files → Option Ledger
     → Option (List ℕ) → Option (List ℕ) → Type 0
