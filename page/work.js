@@ -225,9 +225,10 @@ const Work = (() => {
   // a block has up to a quarter more than what it is for. Where that fails the call will say it.
   function provide({ module, roomSize, size, longest }) {
     const inModule = Math.min(MOST_AHEAD, 2.25 * size + BESIDE);
+    const copied = longest > MOST_COPIED ? 0 : longest;
     try {
       const instance = instanceWith(module, roomSize, inModule);
-      taken = { instance, copy: touch(new Uint8Array(Math.min(MOST_COPIED, longest))) };
+      taken = { instance, copy: touch(new Uint8Array(copied)) };
     } catch {
       taken = null;
     }
