@@ -47,7 +47,9 @@ pub const COPY: WireCom = WireCom {
 };
 
 /// The residue of a number, 0 where it is not below the modulus.
-pub fn residue(number: u64) -> Residue {
+pub fn residue(number: u64) -> Residue
+    ensures { number < 2305843009213693951 → result ≡ number }
+{
     Residue::new(number).unwrap_or(Residue::ZERO)
 }
 
