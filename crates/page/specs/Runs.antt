@@ -1,6 +1,6 @@
 -- What a run over files in memory is: the promises of `run`, at these files, no auction and no
 -- text.
-use Rattle.std.specs.Prelude.{◌≡◌, ◌≢◌, ℕ, List, [], Option, Some, IfSome}
+use Rattle.std.specs.Prelude.{◌≡◌, ◌≢◌, ◌⊎◌, ℕ, List, [], Option, Some, IfSome}
 use Rattle.std.specs.FinMap.{empty}
 use Rattle.vk_io.specs.Files.{Files}
 use Rattle.vk_io.specs.Writing.{written}
@@ -12,7 +12,7 @@ use Rattle.vk_words.specs.Orders.{SealWords}
 use Rattle.vk_effect.specs.Effects.{Effect, Outside, outside, stores}
 use Rattle.vk_coins.specs.Meaning.{MakesChallenge}
 use Rattle.vk_app.specs.Commands.{DoesWork, Work, work_on}
-use Rattle.vk_app.specs.Promises.{Audits, ClaimExtractIsComplete, ClaimExtractIsSound, ClaimHeadline, Claims, ExtractIsComplete, ExtractIsSound, Headline, HoldsCeremony, KeepsHouse, RunLeaves, SamplesMatching, TellsUsage}
+use Rattle.vk_app.specs.Promises.{Audits, ClaimExtractIsComplete, ClaimExtractIsSound, ClaimHeadline, Claims, ExtractIsComplete, ExtractIsSound, Headline, HoldsCeremony, KeepsHouse, RunLeaves, RunStops, SamplesMatching, TellsUsage}
 use Rattle.vk_app.specs.Sealing.{Seals}
 use Rattle.page.specs.declared.room.WantedName.{WantedName}
 use Rattle.page.specs.Shown.{BeginsWith, shown_bytes}
@@ -66,6 +66,7 @@ pub record IsPageRun (words : List (List ℕ)) (files : Files) (status : ℕ) (l
   pub ceremony : HoldsCeremony files no_auctions words status (Some left) (Some kept) (Some [])
       (Some text)
   pub leaves : status ≢ 6 → status ≢ 9 → RunLeaves words status (Some files) (Some left)
+  pub parts : (status ≡ 6) ⊎ (status ≡ 9) → RunStops words (Some files) (Some left)
   pub usage : TellsUsage words status (Some []) (Some text)
 
 -- ---- what is handed back

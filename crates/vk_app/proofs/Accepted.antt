@@ -61,7 +61,7 @@ challenges_are_answered files ledger id name reply auction seed challenge is =
 
 pub left_replies_are_accepted : LeftRepliesAreAccepted
 left_replies_are_accepted id name reply old new auction challenge left =
-    (left.read.file.held, answers_are_accepted auction challenge left.proved left.asked)
+    (left.is.read.file.held, answers_are_accepted auction challenge left.is.proved left.is.asked)
 
 -- ---- a challenge that is derived
 

@@ -20,7 +20,7 @@ use Rattle.vk_house.specs.Steps.{in_phase}
 use Rattle.vk_house.proofs.Once.{keeps_on, keeps_same}
 use Rattle.vk_words.specs.Commands.{command_words}
 use Rattle.vk_ceremony.specs.Acts.{HouseAct}
-use Rattle.vk_app.specs.Auctions.{Answers, AreRuns, IsActOf, IsRun, Proves, PublishesBoard, PublishesReply, Run, orders_of}
+use Rattle.vk_app.specs.Auctions.{Answers, AreRuns, IsActIn, IsActOf, IsRun, Proves, PublishesBoard, PublishesReply, Run, orders_of}
 use Rattle.vk_app.proofs.Served.{served_found, served_keeps}
 
 -- ---- the board of an auction
@@ -132,16 +132,16 @@ answered_lasts act last id given shown lasts answers =
 
 run_keeps : (one : Run) → IsRun one → KeepsAnswers one.ledger one.kept
 run_keeps one is = served_keeps (orders_of one.files (command_words one.words)) one.files one.ledger
-    one.acts (Some one.left) one.kept is.performs
+    one.acts one.stop (Some one.left) one.kept is.performs
 
 run_lasts : (one : Run) (last : Ledger) (act : HouseAct) → IsRun one → IsLedger one.ledger
-    → KeepsAnswers one.kept last → Contains one.acts act → Lasts act last
+    → KeepsAnswers one.kept last → IsActIn one.acts one.stop act → Lasts act last
 run_lasts one last act is right keeps among = record {
   boards = is.boards right act among;
   replies = is.replies right act among;
   keeps = keeps_on act.kept one.kept last
-      (served_found one.words one.files one.ledger one.acts (Some one.left) (Some one.kept) one.kept
-      act is.performs refl right among).keeps keeps;
+      (served_found one.words one.files one.ledger one.acts one.stop (Some one.left) (Some one.kept)
+      one.kept act is.performs refl right among).keeps keeps;
 }
 
 runs_keep : (runs : List Run) (old new : Ledger) → AreRuns runs old new → KeepsAnswers old new
@@ -152,7 +152,7 @@ runs_keep (one ∷ later) old new (begins, is, rest) =
     (runs_keep later one.kept new rest)
 
 lasts : (runs : List Run) (old new : Ledger) (one : Run) (act : HouseAct) → IsLedger old
-    → AreRuns runs old new → Contains runs one → Contains one.acts act → Lasts act new
+    → AreRuns runs old new → Contains runs one → IsActIn one.acts one.stop act → Lasts act new
 lasts [] old new one act right are (k, below, at) among = absurd (omega arith)
 lasts (first ∷ later) old new one act right (begins, is, rest) (zero, below, at) among =
     run_lasts one new act (subst IsRun at is)

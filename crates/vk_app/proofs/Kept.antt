@@ -6,22 +6,24 @@ use Rattle.std.specs.FinMap.{get}
 use Rattle.std.proofs.lemmas.Option.{same_Some}
 use Rattle.vk_residue.specs.Steps.{◌>>=◌}
 use Rattle.vk_io.specs.declared.errors.OutsideErr.{OutsideErr}
-use Rattle.vk_io.specs.Files.{Files}
+use Rattle.vk_io.specs.Files.{Files, Modelled}
 use Rattle.vk_lines.specs.Forms.{fault_line}
 use Rattle.vk_lines.specs.Lines.{Rest, line_by}
 use Rattle.vk_lines.specs.Tokens.{word_of}
 use Rattle.vk_keeper.specs.Ledgers.{Ledger}
 use Rattle.vk_words.specs.Coins.{CoinWords}
-use Rattle.vk_words.specs.Commands.{Coin, CommandWords, Seal, command_words}
+use Rattle.vk_words.specs.Commands.{Coin, CommandWords, House, Seal, command_words}
 use Rattle.vk_words.specs.Orders.{SealWords}
 use Rattle.vk_effect.specs.Effects.{Effect, Outside, outside, says, stores, SaidValue, IsSaid}
 use Rattle.vk_effect.specs.Ends.{Done}
 use Rattle.vk_effect.specs.NamedFiles.{missing_said, too_long_said}
 use Rattle.vk_effect.specs.Reading.{begun_in, from_first}
 use Rattle.vk_effect.proofs.NamedFiles.{begun_long, begun_short, same_Err}
+use Rattle.vk_auctioneer.proofs.Leaving.{ended_stopped}
 use Rattle.vk_ceremony.specs.Acts.{PerformsAll}
 use Rattle.vk_ceremony.specs.Ceremonies.{Ceremony, EndsAll, ceremony_behind, ceremony_on, closed, closing_said}
 use Rattle.vk_ceremony.specs.Forms.{fault_by, script_table}
+use Rattle.vk_ceremony.specs.Leaving.{LeavesAnswered}
 use Rattle.vk_ceremony.specs.Runs.{orders_behind, orders_in}
 use Rattle.vk_ceremony.specs.Scripts.{behind_heading, heading, script_begun}
 use Rattle.vk_ceremony.proofs.Agreeing.{script_fault}
@@ -30,8 +32,8 @@ use Rattle.vk_ceremony.proofs.Performing.{ceremony_performs_all}
 use Rattle.vk_coins.specs.Deeds.{coin_on}
 use Rattle.vk_coins.specs.Meaning.{MakesChallenge}
 use Rattle.vk_coins.proofs.Made.{makes}
-use Rattle.vk_app.specs.Commands.{Command, CommandEndsFreely, EndsWork, Script, usage_said, work_of, work_on}
-use Rattle.vk_app.specs.Promises.{CeremonyIsDone, HoldsCeremony, KeepsHouse, TellsUsage, closing_behind}
+use Rattle.vk_app.specs.Commands.{Command, CommandEndsFreely, EndsWork, Script, script_in, usage_said, work_of, work_on}
+use Rattle.vk_app.specs.Promises.{CeremonyIsDone, CommandLeaves, CommandLeft, CommandStops, HoldsCeremony, KeepsHouse, LeavesBy, StopsBy, TellsUsage, WorkLeft, closing_behind}
 use Rattle.vk_app.specs.Sealing.{Seals, seal_effect, seal_on}
 use Rattle.vk_app.proofs.Sealing.{seals}
 use Rattle.vk_app.proofs.Served.{command_done, serves}
@@ -250,3 +252,43 @@ module _ (held : Option Files) (ledger : Option Ledger) (words : List (List ℕ)
       (of_command (coin_on held ledger order)
       (subst (λ found. IfSome (work_of held ledger found)
       (λ work. EndsWork (Ok status) work (outside (stores held ledger) old) new)) is ends))
+
+-- ---- the files
+
+-- a single command was stopped before it printed
+pub acting_left : (command : Option CommandWords) (stop other : OutsideErr)
+    (held now : Option Files) → None ≡ script_in command → CommandLeft command (Err other) held now
+    → WorkLeft command (Err stop) held now
+acting_left command stop other held now none left =
+    subst (λ script. StopsBy script command held now) none left
+
+printed : (command : Option CommandWords) (status : ℕ) (held now : Option Files)
+    → CommandLeaves command status held now → CommandStops command held now
+printed (Some (House order)) status None now left = left
+printed (Some (House order)) status (Some old) None left = absurd left
+printed (Some (House order)) status (Some old) (Some new) left =
+    ended_stopped order status old new left
+printed command status held now left = tt
+
+-- or while it printed, where it left what it leaves that ends
+pub printing_left : (command : Option CommandWords) (said : SaidValue) (stop : OutsideErr)
+    (held now : Option Files) → None ≡ script_in command → CommandLeft command (Ok said) held now
+    → WorkLeft command (Err stop) held now
+printing_left command said stop held now none left =
+    subst (λ script. StopsBy script command held now) none
+    (printed command said.status held now left)
+
+-- a ceremony ended, or it was stopped
+pub script_left : (command : Option CommandWords) (script : List ℕ) (status : ℕ)
+    (held now : Option Files) → Some script ≡ script_in command
+    → Modelled (LeavesAnswered script (Ok status)) held now
+    → WorkLeft command (Ok status) held now
+script_left command script status held now is left =
+    subst (λ name. LeavesBy name command status held now) is left
+
+pub script_stopped : (command : Option CommandWords) (script : List ℕ) (stop other : OutsideErr)
+    (held now : Option Files) → Some script ≡ script_in command
+    → Modelled (LeavesAnswered script (Err other)) held now
+    → WorkLeft command (Err stop) held now
+script_stopped command script stop other held now is left =
+    subst (λ name. StopsBy name command held now) is left

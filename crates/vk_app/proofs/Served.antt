@@ -35,7 +35,7 @@ use Rattle.vk_ceremony.specs.Ceremonies.{Ceremony, EndsAll, ceremony_on}
 use Rattle.vk_ceremony.specs.Runs.{asked_in, orders_in}
 use Rattle.vk_ceremony.proofs.Following.{ledger_by, ledger_left, order_told}
 use Rattle.vk_ceremony.proofs.Performing.{act_of, ceremony_performs, command_performs}
-use Rattle.vk_ceremony.proofs.Standing.{act_same, act_steps, is_act_within, keeps_within, orders_are, performs_keeps, performs_right, right_within}
+use Rattle.vk_ceremony.proofs.Standing.{act_same, act_steps, is_act_within, keeps_within, orders_are, performs_keeps, performs_right, right_before, right_within}
 use Rattle.vk_sample_parts.specs.Auctions.{DrySeed, auction_of}
 use Rattle.vk_sample.specs.Samples.{effect_by, sample_on}
 use Rattle.vk_job.specs.Proofs.{ProofValue}
@@ -48,7 +48,7 @@ use Rattle.vk_words.specs.Coins as coins
 use Rattle.vk_coins.specs.Deeds.{coin_on}
 use Rattle.vk_claims.specs.ClaimSamples.{EndsFreely, claim_sample_on, effect_with}
 use Rattle.vk_claims.specs.ClaimSamples as claimed
-use Rattle.vk_app.specs.Auctions.{CommandIsDone, KeepsToSteps, PerformsAt, PublishesBoard, PublishesReply, Serves, ServesHouse, orders_of, input_fault}
+use Rattle.vk_app.specs.Auctions.{CommandIsDone, IsActIn, KeepsToSteps, PerformsAt, PublishesBoard, PublishesReply, Serves, ServesHouse, orders_of, input_fault}
 use Rattle.vk_app.specs.Commands.{Command, CommandEndsFreely, EndsWork, Script, Work, command_effect, work_of, work_on}
 use Rattle.vk_app.specs.Sealing.{seal_on}
 
@@ -173,15 +173,25 @@ all_first P [] later all = tt
 all_first P (order ∷ orders) later all = (all.0, all_first P orders later all.1)
 
 found_in : (orders : List HouseWords) (files : Files) (ledger : Ledger) (acts : List HouseAct)
-    (left : Files) (kept : Ledger) (act : HouseAct)
-    → AllByRecursion AreHouseWords orders → Performs orders files ledger acts left kept
-    → IsLedger ledger → Contains acts act → Found act kept
-found_in orders files ledger acts left kept act are performs right among =
+    (stop : Option HouseAct) (left : Files) (kept : Ledger) (act : HouseAct)
+    → AllByRecursion AreHouseWords orders → Performs orders files ledger acts stop left kept
+    → IsLedger ledger → IsActIn acts stop act → Found act kept
+found_in orders files ledger acts stop left kept act are performs right (inr stopped) =
+    let at : Performs orders files ledger acts (Some act) left kept =
+    subst (λ s. Performs orders files ledger acts s left kept) stopped performs in
+    let before = right_before orders files ledger acts act left kept are at right in
+    record {
+      is = at.last.is;
+      words = before.0;
+      right = before.1;
+      keeps = subst (KeepsAnswers act.kept) (sym at.last.kept_is) (keeps_same act.kept);
+    }
+found_in orders files ledger acts stop left kept act are performs right (inl among) =
     let between = performs.files_between in
     let ledger_between = performs.ledger_between in
     let words = all_first AreHouseWords (map (λ (one : HouseAct). one.order) acts) performs.later
     (subst (AllByRecursion AreHouseWords) performs.orders_are are) in
-    let stop : Performs performs.later between ledger_between [] left kept =
+    let rest : Performs performs.later between ledger_between [] stop left kept =
     record {
       later = performs.later;
       orders_are = refl;
@@ -197,7 +207,7 @@ found_in orders files ledger acts left kept act are performs right among =
           right;
       keeps = keeps_on act.kept ledger_between kept
           (keeps_within acts files ledger between ledger_between act performs.done among).1
-          (performs_keeps performs.later between ledger_between [] left kept stop);
+          (performs_keeps performs.later between ledger_between [] stop left kept rest);
     }
 
 -- ---- a run
@@ -221,84 +231,96 @@ meant_words files words orders is = by_command (command_words words) refl where
 
 -- what is kept after a run of which all that is kept is kept until the last ledger
 pub served_keeps : (meant : Option (List HouseWords)) (files : Files) (ledger : Ledger)
-    (acts : List HouseAct) (held : Option Files) (kept : Ledger)
-    → PerformsAt meant files ledger acts held (Some kept) → KeepsAnswers ledger kept
-served_keeps None files ledger acts held kept performs =
-    subst (KeepsAnswers ledger) (same_Some ledger kept (sym performs.1)) (keeps_same ledger)
-served_keeps (Some orders) files ledger acts held kept to =
+    (acts : List HouseAct) (stop : Option HouseAct) (held : Option Files) (kept : Ledger)
+    → PerformsAt meant files ledger acts stop held (Some kept) → KeepsAnswers ledger kept
+served_keeps None files ledger acts stop held kept performs =
+    subst (KeepsAnswers ledger) (same_Some ledger kept (sym performs.2)) (keeps_same ledger)
+served_keeps (Some orders) files ledger acts stop held kept to =
     subst (KeepsAnswers ledger) (same_Some to.last kept (sym to.kept_is))
-    (performs_keeps orders files ledger acts to.left to.last to.performs)
+    (performs_keeps orders files ledger acts stop to.left to.last to.performs)
 
-no_act : (act : HouseAct) → Contains [] act → ⊥
-no_act act (k, below, at) = omega arith
+no_act : (acts : List HouseAct) (stop : Option HouseAct) (act : HouseAct) → acts ≡ []
+    → stop ≡ None → IsActIn acts stop act → ⊥
+no_act acts stop act none no_stop (inr stopped) = cc
+no_act acts stop act none no_stop (inl among) =
+    none_among (subst (λ (l : List HouseAct). Contains l act) none among)
+  where
+    none_among : Contains [] act → ⊥
+    none_among (k, below, at) = omega arith
 
 -- what is kept is modelled
 kept_told : (meant : Option (List HouseWords)) (files : Files) (ledger : Ledger)
-    (acts : List HouseAct) (held : Option Files) (kept : Option Ledger)
-    → PerformsAt meant files ledger acts held kept → (last : Ledger) × (kept ≡ Some last)
-kept_told None files ledger acts held kept performs = (ledger, performs.1)
-kept_told (Some orders) files ledger acts held kept to = (to.last, to.kept_is)
+    (acts : List HouseAct) (stop : Option HouseAct) (held : Option Files) (kept : Option Ledger)
+    → PerformsAt meant files ledger acts stop held kept → (last : Ledger) × (kept ≡ Some last)
+kept_told None files ledger acts stop held kept performs = (ledger, performs.2)
+kept_told (Some orders) files ledger acts stop held kept to = (to.last, to.kept_is)
 
 act_is : (meant : Option (List HouseWords)) (files : Files) (ledger : Ledger) (acts : List HouseAct)
-    (held : Option Files) (kept : Option Ledger) (act : HouseAct)
-    → PerformsAt meant files ledger acts held kept → Contains acts act → IsAct act
-act_is None files ledger acts held kept act performs among =
-    absurd (no_act act (subst (λ (l : List HouseAct). Contains l act) performs.0 among))
-act_is (Some orders) files ledger acts held kept act to among =
+    (stop : Option HouseAct) (held : Option Files) (kept : Option Ledger) (act : HouseAct)
+    → PerformsAt meant files ledger acts stop held kept → IsActIn acts stop act → IsAct act
+act_is None files ledger acts stop held kept act performs among =
+    absurd (no_act acts stop act performs.0 performs.1 among)
+act_is (Some orders) files ledger acts stop held kept act to (inl among) =
     is_act_within acts files ledger to.performs.files_between to.performs.ledger_between act
     to.performs.done among
+act_is (Some orders) files ledger acts stop held kept act to (inr stopped) =
+    let at : Performs orders files ledger acts (Some act) to.left to.last =
+    subst (λ s. Performs orders files ledger acts s to.left to.last) stopped to.performs in
+    at.last.is
 
 act_found : (meant : Option (List HouseWords)) (files : Files) (ledger : Ledger)
-    (acts : List HouseAct) (held : Option Files) (kept : Option Ledger) (last : Ledger)
-    (act : HouseAct)
+    (acts : List HouseAct) (stop : Option HouseAct) (held : Option Files) (kept : Option Ledger)
+    (last : Ledger) (act : HouseAct)
     → ((orders : List HouseWords) → meant ≡ Some orders → AllByRecursion AreHouseWords orders)
-    → PerformsAt meant files ledger acts held kept → kept ≡ Some last → IsLedger ledger
-    → Contains acts act → Found act last
-act_found None files ledger acts held kept last act words performs is right among =
-    absurd (no_act act (subst (λ (l : List HouseAct). Contains l act) performs.0 among))
-act_found (Some orders) files ledger acts held kept last act words to is right among =
+    → PerformsAt meant files ledger acts stop held kept → kept ≡ Some last → IsLedger ledger
+    → IsActIn acts stop act → Found act last
+act_found None files ledger acts stop held kept last act words performs is right among =
+    absurd (no_act acts stop act performs.0 performs.1 among)
+act_found (Some orders) files ledger acts stop held kept last act words to is right among =
     subst (Found act) (same_Some to.last last (sym to.kept_is ∙ is))
-    (found_in orders files ledger acts to.left to.last act (words orders refl) to.performs right
-    among)
+    (found_in orders files ledger acts stop to.left to.last act (words orders refl) to.performs
+    right among)
 
 pub served_found : (words : List (List ℕ)) (files : Files) (ledger : Ledger) (acts : List HouseAct)
-    (held : Option Files) (kept : Option Ledger) (last : Ledger) (act : HouseAct)
-    → PerformsAt (orders_of files (command_words words)) files ledger acts held kept
-    → kept ≡ Some last → IsLedger ledger → Contains acts act → Found act last
-served_found words files ledger acts held kept last act performs is right among =
-    act_found (orders_of files (command_words words)) files ledger acts held kept last act
+    (stop : Option HouseAct) (held : Option Files) (kept : Option Ledger) (last : Ledger)
+    (act : HouseAct)
+    → PerformsAt (orders_of files (command_words words)) files ledger acts stop held kept
+    → kept ≡ Some last → IsLedger ledger → IsActIn acts stop act → Found act last
+served_found words files ledger acts stop held kept last act performs is right among =
+    act_found (orders_of files (command_words words)) files ledger acts stop held kept last act
     (meant_words files words) performs is right among
 
 -- what is kept is a ledger
 stays_right : (meant : Option (List HouseWords)) (files : Files) (ledger : Ledger)
-    (acts : List HouseAct) (held : Option Files) (kept : Option Ledger)
+    (acts : List HouseAct) (stop : Option HouseAct) (held : Option Files) (kept : Option Ledger)
     → ((orders : List HouseWords) → meant ≡ Some orders → AllByRecursion AreHouseWords orders)
-    → PerformsAt meant files ledger acts held kept → IsLedger ledger → IsSomeAnd kept IsLedger
-stays_right None files ledger acts held kept words performs right =
-    subst (λ l. IsSomeAnd l IsLedger) (sym performs.1) right
-stays_right (Some orders) files ledger acts held kept words to right =
+    → PerformsAt meant files ledger acts stop held kept → IsLedger ledger → IsSomeAnd kept IsLedger
+stays_right None files ledger acts stop held kept words performs right =
+    subst (λ l. IsSomeAnd l IsLedger) (sym performs.2) right
+stays_right (Some orders) files ledger acts stop held kept words to right =
     subst (λ l. IsSomeAnd l IsLedger) (sym to.kept_is)
-    (performs_right orders files ledger acts to.left to.last (words orders refl) to.performs
+    (performs_right orders files ledger acts stop to.left to.last (words orders refl) to.performs
     right)
 
 serves_by : (words : List (List ℕ)) (files : Files) (ledger : Ledger) (acts : List HouseAct)
-    (held : Option Files) (kept : Option Ledger)
-    → PerformsAt (orders_of files (command_words words)) files ledger acts held kept
-    → ServesHouse words files ledger acts held kept
-serves_by words files ledger acts held kept performs =
+    (stop : Option HouseAct) (held : Option Files) (kept : Option Ledger)
+    → PerformsAt (orders_of files (command_words words)) files ledger acts stop held kept
+    → ServesHouse words files ledger acts stop held kept
+serves_by words files ledger acts stop held kept performs =
     let meant = orders_of files (command_words words) in
-    let last = kept_told meant files ledger acts held kept performs in
+    let last = kept_told meant files ledger acts stop held kept performs in
     record {
       performs = performs;
       steps = λ act among. keeps_to_steps act
-          (act_is meant files ledger acts held kept act performs among);
-      ledgers = stays_right meant files ledger acts held kept (meant_words files words) performs;
+          (act_is meant files ledger acts stop held kept act performs among);
+      ledgers = stays_right meant files ledger acts stop held kept (meant_words files words)
+          performs;
       boards = λ right act among.
-          (let found = served_found words files ledger acts held kept last.0 act performs last.1
-          right among in publishes_board act found.is found.words found.right);
+          (let found = served_found words files ledger acts stop held kept last.0 act performs
+          last.1 right among in publishes_board act found.is found.words found.right);
       replies = λ right act among.
-          (let found = served_found words files ledger acts held kept last.0 act performs last.1
-          right among in publishes_reply act found.is found.words found.right);
+          (let found = served_found words files ledger acts stop held kept last.0 act performs
+          last.1 right among in publishes_reply act found.is found.words found.right);
     }
 
 -- ---- how a run ends
@@ -356,15 +378,16 @@ module _ (files : Files) (ledger : Ledger) (result : Result ℕ OutsideErr) (old
   EndsSo work = EndsWork result work before new
 
   abbrev Performed : Option CommandWords → Type 0
-  Performed command = (acts : List HouseAct)
-      × PerformsAt (orders_of files command) files ledger acts new.files new.ledger
+  Performed command = (acts : List HouseAct) × ((stop : Option HouseAct)
+      × PerformsAt (orders_of files command) files ledger acts stop new.files new.ledger)
 
   -- a command that asks nothing of the house
   still : (found : Option Effect) → IsSomeAnd found (λ effect. effect.ledger ≡ Some ledger)
       → IfSome (option_map Command found) EndsSo → (acts : List HouseAct)
-      × ((acts ≡ []) × (new.ledger ≡ Some ledger))
+      × ((stop : Option HouseAct) × ((acts ≡ []) × (stop ≡ None) × (new.ledger ≡ Some ledger)))
   still None told ends = absurd told
-  still (Some effect) told ends = ([], (refl, ends_ledger result effect before new ends told))
+  still (Some effect) told ends =
+      ([], (None, (refl, refl, ends_ledger result effect before new ends told)))
 
   from_command : (found : Option Effect) → IfSome (option_map Command found) EndsSo
       → IfSome found (λ effect. Ends result effect before new)
@@ -377,16 +400,20 @@ module _ (files : Files) (ledger : Ledger) (result : Result ℕ OutsideErr) (old
   from_script (Some whole) ends = ends
 
   acts_of : (orders : List HouseWords) → PerformsSome orders files ledger new.files new.ledger
-      → (acts : List HouseAct) × PerformsAt (Some orders) files ledger acts new.files new.ledger
+      → (acts : List HouseAct) × ((stop : Option HouseAct)
+      × PerformsAt (Some orders) files ledger acts stop new.files new.ledger)
   acts_of orders some = (
     some.acts,
-    record {
-      left = some.files_left;
-      last = some.ledger_left;
-      held_is = some.held_is;
-      kept_is = some.kept_is;
-      performs = some.performs;
-    },
+    (
+      some.stop,
+      record {
+        left = some.files_left;
+        last = some.ledger_left;
+        held_is = some.held_is;
+        kept_is = some.kept_is;
+        performs = some.performs;
+      },
+    ),
   )
 
   sampled : (number : ℕ) (made : Result Auction DrySeed)
@@ -423,7 +450,7 @@ module _ (files : Files) (ledger : Ledger) (result : Result ℕ OutsideErr) (old
       still (claim_sample_on (Some files) (Some ledger) Uniform number)
       (claim_still files ledger Uniform number (numbers_of number)) ends
   performed (Some (ClaimSample Matching number)) ends free =
-      ([], (refl, matching_kept files ledger number result old new free))
+      ([], (None, (refl, refl, matching_kept files ledger number result old new free)))
   performed (Some (Coin order)) ends free =
       still (coin_on (Some files) (Some ledger) order) (coin_still order) ends
   performed (Some (Sample number)) ends free =
@@ -442,8 +469,8 @@ module _ (files : Files) (ledger : Ledger) (result : Result ℕ OutsideErr) (old
       let acts = performed (command_words words) ends free in
       record {
         acts = acts.0;
-        serves =
-            serves_by words files ledger acts.0 new.files new.ledger acts.1;
+        stop = acts.1.0;
+        serves = serves_by words files ledger acts.0 acts.1.0 new.files new.ledger acts.1.1;
       }
 
 -- ---- one command at its end

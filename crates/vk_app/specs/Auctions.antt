@@ -97,37 +97,47 @@ orders_of files (Some (House order)) = Some (order ∷ [])
 orders_of files (Some (Ceremony script)) = Some (orders_in files script)
 orders_of files command = None
 
--- the first of these orders were done by these acts, and this is held and kept after them
+-- the first of these orders were done by these acts, and where there is one the next was stopped at
+-- this act. This is held and kept after them
 pub record PerformsTo (orders : List HouseWords) (files : Files) (ledger : Ledger)
-    (acts : List HouseAct) (held : Option Files) (kept : Option Ledger) : Type 0 where
+    (acts : List HouseAct) (stop : Option HouseAct) (held : Option Files) (kept : Option Ledger)
+    : Type 0 where
   pub left : Files
   pub last : Ledger
   pub held_is : held ≡ Some left
   pub kept_is : kept ≡ Some last
-  pub performs : Performs orders files ledger acts left last
+  pub performs : Performs orders files ledger acts stop left last
 
 -- where none are meant nothing is done, and the ledger stays
-abbrev pub PerformsAt : Option (List HouseWords) → Files → Ledger → List HouseAct → Option Files
-    → Option Ledger → Type 0
-PerformsAt (Some orders) files ledger acts held kept = PerformsTo orders files ledger acts held kept
-PerformsAt None files ledger acts held kept = (acts ≡ []) × (kept ≡ Some ledger)
+abbrev pub PerformsAt : Option (List HouseWords) → Files → Ledger → List HouseAct → Option HouseAct
+    → Option Files → Option Ledger → Type 0
+PerformsAt (Some orders) files ledger acts stop held kept =
+    PerformsTo orders files ledger acts stop held kept
+PerformsAt None files ledger acts stop held kept = (acts ≡ []) × (stop ≡ None)
+    × (kept ≡ Some ledger)
 
--- what a run does at the house, whether it came to its end or was stopped: these acts. Each is a
--- step of the house; a board is that of the auction that is kept, and a reply is accepted with it.
--- What is kept stays a ledger
+-- it is one of these acts that were done, or the one that was stopped
+abbrev pub IsActIn : List HouseAct → Option HouseAct → HouseAct → Type 0
+IsActIn acts stop act = Contains acts act ⊎ (stop ≡ Some act)
+
+-- what a run does at the house, whether it came to its end or was stopped: these acts, and the one
+-- that was stopped when the house had kept it. Each is a step of the house; a board is that of the
+-- auction that is kept, and a reply is accepted with it. What is kept stays a ledger
 pub record ServesHouse (words : List (List ℕ)) (files : Files) (ledger : Ledger)
-    (acts : List HouseAct) (held : Option Files) (kept : Option Ledger) : Type 0 where
-  pub performs : PerformsAt (orders_of files (command_words words)) files ledger acts held kept
-  pub steps : (act : HouseAct) → Contains acts act → KeepsToSteps act
+    (acts : List HouseAct) (stop : Option HouseAct) (held : Option Files) (kept : Option Ledger)
+    : Type 0 where
+  pub performs : PerformsAt (orders_of files (command_words words)) files ledger acts stop held kept
+  pub steps : (act : HouseAct) → IsActIn acts stop act → KeepsToSteps act
   pub ledgers : IsLedger ledger → IsSomeAnd kept IsLedger
-  pub boards : IsLedger ledger → (act : HouseAct) → Contains acts act → PublishesBoard act
-  pub replies : IsLedger ledger → (act : HouseAct) → Contains acts act → PublishesReply act
+  pub boards : IsLedger ledger → (act : HouseAct) → IsActIn acts stop act → PublishesBoard act
+  pub replies : IsLedger ledger → (act : HouseAct) → IsActIn acts stop act → PublishesReply act
 
 -- there are such acts
 pub record Serves (words : List (List ℕ)) (files : Files) (ledger : Ledger) (held : Option Files)
     (kept : Option Ledger) : Type 0 where
   pub acts : List HouseAct
-  pub serves : ServesHouse words files ledger acts held kept
+  pub stop : Option HouseAct
+  pub serves : ServesHouse words files ledger acts stop held kept
 
 -- one command of the house came to its end: it is an act on what was found, this is held and kept
 -- after it, and what it says is the status and was put
@@ -144,18 +154,21 @@ pub record CommandIsDone (order : HouseWords) (files : Files) (ledger : Ledger)
 
 -- ---- runs one after another
 
--- one run: its words, the files and the ledger before and after, and its acts
+-- one run: its words, the files and the ledger before and after, its acts, and the one that was
+-- stopped
 pub record Run : Type 0 where
   pub words : List (List ℕ)
   pub files : Files
   pub ledger : Ledger
   pub acts : List HouseAct
+  pub stop : Option HouseAct
   pub left : Files
   pub kept : Ledger
 
 -- what `run` says of it
 abbrev pub IsRun : Run → Type 0
-IsRun one = ServesHouse one.words one.files one.ledger one.acts (Some one.left) (Some one.kept)
+IsRun one = ServesHouse one.words one.files one.ledger one.acts one.stop (Some one.left)
+    (Some one.kept)
 
 -- these are runs one after another on one keeper, from the one ledger to the other. Between them
 -- the files may change
@@ -164,11 +177,12 @@ AreRuns [] old new = new ≡ old
 AreRuns (one ∷ later) old new = (one.ledger ≡ old) × IsRun one × AreRuns later one.kept new
 
 -- the act is one of some run's among these: of a command's, or of a ceremony's that ended or was
--- stopped later
+-- stopped later; or the one that was stopped itself
 abbrev pub IsActOf : List Run → HouseAct → Type 0
-IsActOf runs act = (one : Run) × Contains runs one × Contains one.acts act
+IsActOf runs act = (one : Run) × Contains runs one × IsActIn one.acts one.stop act
 
--- it is a `prove` of that auction that was done with status 0, and left this board
+-- it is a `prove` of that auction that was done with status 0, and left this board; or one that was
+-- stopped, whose file holds this board or its first bytes, or is as before
 pub record Proves (act : HouseAct) (id published : List ℕ) : Type 0 where
   pub seed : List ℕ
   pub board : List ℕ
@@ -177,7 +191,7 @@ pub record Proves (act : HouseAct) (id published : List ℕ) : Type 0 where
   pub published_is : get act.left board ≡ Some published
 
 -- it is an `answer` of that auction that was done with status 0: it was given this challenge, and
--- left this reply
+-- left this reply; or one that was stopped, whose file holds it or its first bytes, or is as before
 pub record Answers (act : HouseAct) (id given shown : List ℕ) : Type 0 where
   pub challenge : List ℕ
   pub reply : List ℕ

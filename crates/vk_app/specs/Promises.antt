@@ -1,9 +1,10 @@
 -- What `run` promises, one record for each family of commands, over files and a ledger that are
 -- modelled.
-use Rattle.std.specs.Prelude.{◌≡◌, ◌≢◌, ◌⊎◌, ℕ, ◌^◌, ◌<◌, ◌≤◌, ◌||◌, Bool, true, false, if◌then◌else◌, List, [], ◌∷◌, ◌++◌, codes, length, Option, Some, None, IfSome}
+use Rattle.std.specs.Prelude.{◌≡◌, ◌≢◌, ◌⊎◌, ℕ, ◌^◌, ◌<◌, ◌≤◌, ◌||◌, Bool, true, false, if◌then◌else◌, List, [], ◌∷◌, ◌++◌, codes, length, Option, Some, None, IfSome, Result, Ok, Err}
 use Rattle.std.specs.FinMap.{get}
 use Rattle.std.specs.List.{AllByRecursion}
 use Rattle.vk_io.specs.Files.{Files, Modelled}
+use Rattle.vk_io.specs.declared.errors.OutsideErr.{OutsideErr}
 use Rattle.vk_keeper.specs.Ledgers.{Ledger}
 use Rattle.vk_words.specs.Commands.{CommandWords, ClaimExtract, ClaimVerify, Confront, Extract, House, Report, Verify, command_words}
 use Rattle.vk_words.specs.Commands as commands
@@ -24,12 +25,12 @@ use Rattle.vk_claims.specs.Statuses.{AcceptsTwoClaims, IsClaimExtracted, IsClaim
 use Rattle.vk_claim.specs.declared.front.ClaimFront.{ClaimFront}
 use Rattle.vk_claims.specs.Soundness.{BeginsWithClaim, TellsValues}
 use Rattle.vk_claims.specs.ClaimSamples.{OfSomeMatching}
-use Rattle.vk_auctioneer.specs.Leaving.{LeavesFiles}
+use Rattle.vk_auctioneer.specs.Leaving.{LeavesFiles, LeavesStopped}
 use Rattle.vk_ceremony.specs.Acts.{HouseAct, PerformsAll}
 use Rattle.vk_lines.specs.Forms.{fault_line}
 use Rattle.vk_ceremony.specs.Ceremonies.{Ceremony, ceremony_on, closing_said, goes_on, is_refusal}
 use Rattle.vk_ceremony.specs.Forms.{script_table}
-use Rattle.vk_ceremony.specs.Leaving.{CeremonyLeaves}
+use Rattle.vk_ceremony.specs.Leaving.{CeremonyLeaves, CeremonyStops}
 use Rattle.vk_ceremony.specs.Runs.{orders_in}
 use Rattle.vk_app.specs.Auctions.{CommandIsDone, Serves}
 use Rattle.vk_app.specs.Commands.{script_in, usage_said}
@@ -264,6 +265,38 @@ LeavesBy None command status held now = CommandLeaves command status held now
 abbrev pub RunLeaves : List (List ℕ) → (status : ℕ) → (held now : Option Files) → Type 0
 RunLeaves words status held now =
     LeavesBy (script_in (command_words words)) (command_words words) status held now
+
+-- ---- and those that a stopped run leaves
+
+-- what a single command leaves of files that are modelled, stopped: said of the house's
+abbrev pub CommandStops : Option CommandWords → (held now : Option Files) → Type 0
+CommandStops (Some (House order)) held now = Modelled (LeavesStopped order) held now
+CommandStops command held now = Unit {0}
+
+abbrev pub StopsBy : Option (List ℕ) → Option CommandWords → (held now : Option Files) → Type 0
+StopsBy (Some script) command held now = Modelled (CeremonyStops script) held now
+StopsBy None command held now = CommandStops command held now
+
+-- the same of whatever words, and of a ceremony command by command, as far as it came. Of the one
+-- that was stopped all files stay, or the board that it is to write holds the first bytes, any
+-- number of them, of the board of some auction that is proved with the seed; a reply those of the
+-- reply of some auction that is proved, to the challenge of the named file
+abbrev pub RunStops : List (List ℕ) → (held now : Option Files) → Type 0
+RunStops words held now =
+    StopsBy (script_in (command_words words)) (command_words words) held now
+
+-- ---- by the answer
+
+-- what a single command leaves, before it prints
+abbrev pub CommandLeft : Option CommandWords → Result SaidValue OutsideErr
+    → (held now : Option Files) → Type 0
+CommandLeft command (Ok said) held now = CommandLeaves command said.status held now
+CommandLeft command (Err stop) held now = CommandStops command held now
+
+-- and a command, or what a script says
+abbrev pub WorkLeft : Option CommandWords → Result ℕ OutsideErr → (held now : Option Files) → Type 0
+WorkLeft command (Ok status) held now = LeavesBy (script_in command) command status held now
+WorkLeft command (Err stop) held now = StopsBy (script_in command) command held now
 
 -- ---- words of no form
 

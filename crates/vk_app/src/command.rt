@@ -16,7 +16,7 @@ ghost use Rattle.vk_audit.specs.Audits.{audit_seen};
 ghost use Rattle.vk_claims.specs.Orders.{claim_order_seen};
 ghost use Rattle.vk_coins.specs.Meaning.{MakesChallenge};
 ghost use Rattle.vk_app.specs.Commands.{ActsOnFiles, CommandActsFreely, CommandEndsFreely, EndsWork, LeavesKeeper, RunIsDone, RunIsStopped, audit_on, claim_on, command_effect, script_in, work_of, work_on};
-ghost use Rattle.vk_app.specs.Promises.{Audits, ClaimExtractIsComplete, ClaimExtractIsSound, ClaimHeadline, Claims, CommandLeaves, ExtractIsComplete, ExtractIsSound, Headline, HoldsCeremony, KeepsHouse, LeavesBy, OverFiles, RunLeaves, SamplesMatching, TellsUsage};
+ghost use Rattle.vk_app.specs.Promises.{Audits, ClaimExtractIsComplete, ClaimExtractIsSound, ClaimHeadline, Claims, CommandLeft, ExtractIsComplete, ExtractIsSound, Headline, HoldsCeremony, KeepsHouse, OverFiles, RunLeaves, RunStops, SamplesMatching, TellsUsage, WorkLeft};
 ghost use Rattle.vk_app.specs.Sealing.{Seals};
 
 use crate::seal::seal;
@@ -73,9 +73,8 @@ fn act<S: Shelf, K: Keeper + Drop>(
     ensures free { CommandActsFreely (Some (command_seen command.entry)) result
         (stores (S.held shelf.old) (K.ledger keeper.old))
         (stores (S.held shelf.new) (K.ledger keeper.new)) }
-    ensures files { IfOk result
-        (λ said. CommandLeaves (Some (command_seen command.entry)) said.status (S.held shelf.old)
-        (S.held shelf.new)) }
+    ensures files { CommandLeft (Some (command_seen command.entry)) result (S.held shelf.old)
+        (S.held shelf.new) }
     ensures once { Modelled KeepsAnswers (K.ledger keeper.old) (K.ledger keeper.new) }
     ensures keeper { LeavesKeeper K.ledger K.Keeper.faults (Some (command_seen command.entry)) keeper.old
         keeper.new }
@@ -129,6 +128,7 @@ fn script_of(command: Command<'_>) -> Option<&str>
 }
 
 /// Does the command, or what a script says, prints at the end of a command, and answers the status.
+#[tactic(auto, using(crate::proofs::Kept::acting_left, crate::proofs::Kept::printing_left, crate::proofs::Kept::script_left, crate::proofs::Kept::script_stopped))]
 fn perform_command<S: Shelf, K: Keeper + Drop, W: Sink>(
     alloc: Global,
     command: Command<'_>,
@@ -146,9 +146,8 @@ fn perform_command<S: Shelf, K: Keeper + Drop, W: Sink>(
         (outside (stores (S.held shelf.old) (K.ledger keeper.old)) (W.taken out.old))
         (outside (stores (S.held shelf.new) (K.ledger keeper.new)) (W.taken out.new)) }
     ensures end { IfOk result IsCommandEnd }
-    ensures files { IfOk result
-        (λ status. LeavesBy (script_in (Some (command_seen command.entry))) (Some (command_seen command.entry))
-        status (S.held shelf.old) (S.held shelf.new)) }
+    ensures files { WorkLeft (Some (command_seen command.entry)) result (S.held shelf.old)
+        (S.held shelf.new) }
     ensures once { Modelled KeepsAnswers (K.ledger keeper.old) (K.ledger keeper.new) }
     ensures keeper { LeavesKeeper K.ledger K.Keeper.faults (Some (command_seen command.entry)) keeper.old
         keeper.new }
@@ -189,9 +188,8 @@ fn perform<S: Shelf, K: Keeper + Drop, W: Sink>(
     ensures end { IfOk result IsEnd }
     ensures usage { IfOk result
         (λ status. status ≡ 2 → command_words (map string_bytes words.now) ≡ None) }
-    ensures files { IfOk result
-        (λ status. RunLeaves (map string_bytes words.now) status (S.held shelf.old)
-        (S.held shelf.new)) }
+    ensures files { WorkLeft (command_words (map string_bytes words.now)) result
+        (S.held shelf.old) (S.held shelf.new) }
     ensures once { Modelled KeepsAnswers (K.ledger keeper.old) (K.ledger keeper.new) }
     ensures keeper { LeavesKeeper K.ledger K.Keeper.faults
         (command_words (map string_bytes words.now)) keeper.old keeper.new }
@@ -302,6 +300,11 @@ pub fn run<S: Shelf, K: Keeper + Drop, W: Sink>(
     // the challenge of the named file.
     ensures files { result ≢ 6 → result ≢ 9
         → RunLeaves (map string_bytes words.now) result (S.held shelf.old) (S.held shelf.new) }
+
+    // And what they leave that were stopped: all files, but for the one that the stopped command
+    // writes. That holds the first bytes of such a board, or of such a reply.
+    ensures parts { (result ≡ 6) ⊎ (result ≡ 9)
+        → RunStops (map string_bytes words.now) (S.held shelf.old) (S.held shelf.new) }
 
     // Status 2 is that the words are no command.
     ensures usage { TellsUsage (map string_bytes words.now) result (W.taken out.old)

@@ -10,7 +10,9 @@ ghost use Rattle.vk_app.specs.Auctions.{Answers, AreRuns, IsActOf, Proves, Run};
 /// A law of every list of runs on one keeper, whatever their words and their statuses and whatever
 /// becomes of the files between them. All that was answered for one auction, by a command or in a
 /// ceremony, had the same challenge, and was the same reply. All boards of it that were left by a
-/// `prove` are one. And with that board every such reply is accepted.
+/// `prove` are one. And with that board every such reply is accepted. So it is of a command that was
+/// stopped when the house had kept it: its file holds such a board or reply, or its first bytes, or
+/// is as before.
 ///
 /// The first ledger is one (`Keeper::get` and `put` say so of theirs), and each run hands that on.
 pub fn every_answer_of_an_auction_is_the_same()

@@ -1,14 +1,18 @@
 -- What a command of the house left of the files, by what the house answered.
-use Rattle.std.proofs.Common.{◌≡◌, ◌≢◌, ℕ, List, Option, Some, None, Result, Ok, Err, IfSome, sym, ap, subst, arith, length}
-use Rattle.std.specs.Prelude.{IfOk}
+use Rattle.std.proofs.Common.{◌≡◌, ◌≢◌, ℕ, zero, suc, List, [], ◌∷◌, Option, Some, None, Result, Ok, Err, IfSome, refl, sym, ap, subst, ◌∙◌, arith, length, take_all, inl, inr}
+use Rattle.std.specs.Prelude.{IfOk, ◌⊎◌}
+use Rattle.std.specs.FinMap.{insert}
 use Rattle.std.proofs.lemmas.Option.{same_Some}
 use Rattle.vk_io.specs.declared.errors.OutsideErr.{OutsideErr}
 use Rattle.vk_io.specs.Files.{Files, Modelled}
+use Rattle.vk_io.specs.Writing.{IsDivided}
 use Rattle.vk_lines.specs.Gives.{Gives}
 use Rattle.vk_reply.specs.declared.challenge.Challenge.{Challenge}
+use Rattle.vk_keeper.specs.declared.auction.Auction.{Auction}
 use Rattle.vk_keeper.specs.Auctions.{challenge_of, seed_of}
 use Rattle.vk_job.specs.Jobs.{IsProvedAuction}
 use Rattle.vk_job.specs.JobValues.{JobValue}
+use Rattle.vk_job.specs.Published.{board_of, reply_of}
 use Rattle.vk_house.specs.declared.errors.HouseErr.{HouseErr}
 use Rattle.vk_house.specs.Answers.{as_reply, work_of}
 use Rattle.vk_house.specs.Commands as house
@@ -21,7 +25,7 @@ use Rattle.vk_auctioneer.specs.Answers.{Leaves, Says}
 use Rattle.vk_auctioneer.specs.Effects.{board_file, reply_file}
 use Rattle.vk_auctioneer.specs.Inputs.{challenge_in}
 use Rattle.vk_auctioneer.specs.Laws.{IsText}
-use Rattle.vk_auctioneer.specs.Leaving.{LeavesAsSaid, LeavesDone, LeavesFiles}
+use Rattle.vk_auctioneer.specs.Leaving.{HasAnswered, HoldsFirst, IsProvedWith, LeavesAsSaid, LeavesDone, LeavesFiles, LeavesStopped}
 use Rattle.vk_auctioneer.proofs.Reading.{challenge_refused, reads_challenge}
 
 -- ---- one end
@@ -38,6 +42,33 @@ files_done : (words : HouseWords) (said : SaidValue) (old new : Files) → said.
 files_done words said old new is_done left =
     record { done = λ _. left; refused = λ not_done. absurd (not_done is_done) }
 
+-- a command that was done left its file whole, which is all of its first bytes
+whole_held : (name text : List ℕ) (old new : Files) → new ≡ insert old name text
+    → HoldsFirst name text old new
+whole_held name text old new is =
+    (length text, omega arith, is ∙ ap (insert old name) (sym (take_all (length text) text (omega arith))))
+
+begun_by : (words : HouseWords) (old new : Files) → LeavesDone words old new
+    → LeavesStopped words old new
+begun_by (Prove id seed board) old new (auction, left) =
+    inr (auction, left.is, whole_held board (board_of auction) old new left.files_are)
+begun_by (Answer id challenge reply) old new (auction, (given, left)) =
+    inr (auction, (given, left.is, whole_held reply (reply_of auction given) old new left.files_are))
+begun_by words old new left = inl left
+
+-- so a command that ended left what one leaves that is stopped later, while it prints
+pub ended_stopped : (words : HouseWords) (status : ℕ) (old new : Files)
+    → LeavesFiles words status old new → LeavesStopped words old new
+ended_stopped words zero old new left = begun_by words old new (left.done refl)
+ended_stopped words (suc n) old new left = inl (left.refused (λ is. cc))
+
+-- its file was divided
+divided_begins : (name text : List ℕ) (old new : Files) → IsDivided ((name, text) ∷ []) old new
+    → (new ≡ old) ⊎ HoldsFirst name text old new
+divided_begins name text old new (inl (inl same)) = inl same
+divided_begins name text old new (inl (inr first)) = inr first
+divided_begins name text old new (inr whole) = inr (whole_held name text old new whole)
+
 -- a command whose files stay however it ends
 abbrev pub WritesNone : HouseWords → Type 0
 WritesNone words = (old new : Files) → new ≡ old → LeavesDone words old new
@@ -46,7 +77,7 @@ pub files_stay : (words : HouseWords) (answer : Result SaidValue OutsideErr)
     (held now : Option Files) → WritesNone words → now ≡ held → LeavesAsSaid words answer held now
 files_stay words answer None now none same = same
 files_stay words answer (Some old) None none same = cc
-files_stay words (Err stop) (Some old) (Some new) none same = tt
+files_stay words (Err stop) (Some old) (Some new) none same = inl (same_Some new old same)
 files_stay words (Ok said) (Some old) (Some new) none same =
     let left = same_Some new old same in
     record { done = λ _. none old new left; refused = λ _. left }
@@ -57,6 +88,12 @@ files_stay words (Ok said) (Some old) (Some new) none same =
 abbrev pub AreProved : Result JobValue HouseErr → Type 0
 AreProved answer = IfOk answer (λ job. IsProvedAuction job.auction)
 
+board_begun : (id seed board : List ℕ) (auction : Auction) (old new : Files)
+    → IsProvedWith id seed auction → (new ≡ old) ⊎ HoldsFirst board (board_of auction) old new
+    → LeavesStopped (Prove id seed board) old new
+board_begun id seed board auction old new is (inl same) = inl same
+board_begun id seed board auction old new is (inr first) = inr (auction, is, first)
+
 pub board_left : (id seed board : List ℕ) (answer : Result JobValue HouseErr)
     (result : Result SaidValue OutsideErr) (held now : Option Files)
     → Says (house.Prove id seed) (as_reply work_of answer) result
@@ -66,16 +103,48 @@ pub board_left : (id seed board : List ℕ) (answer : Result JobValue HouseErr)
     → LeavesAsSaid (Prove id seed board) result held now
 board_left id seed board answer result None now says left id_is seed_is proved = left
 board_left id seed board answer result (Some old) None says left id_is seed_is proved = absurd left
-board_left id seed board answer (Err stop) (Some old) (Some new) says left id_is seed_is proved = tt
+board_left id seed board (Ok job) (Err stop) (Some old) (Some new) says left id_is seed_is proved =
+    board_begun id seed board job.auction old new
+    (record { id_is = id_is; proved = proved; seed_is = seed_is })
+    (divided_begins board (board_of job.auction) old new left)
+board_left id seed board (Err refusal) (Err stop) (Some old) (Some new) says left id_is seed_is
+    proved = inl left
 board_left id seed board (Ok job) (Ok said) (Some old) (Some new) says left id_is seed_is proved =
-    files_done (Prove id seed board) said old new (ap (λ (s : SaidValue). s.status) says.1)
-    (job.auction, record { id_is = id_is; proved = proved; seed_is = seed_is; files_are = left })
+    files_done (Prove id seed board) said old new (ap (λ (s : SaidValue). s.status) says.1) (
+      job.auction,
+      record {
+        is = record { id_is = id_is; proved = proved; seed_is = seed_is };
+        files_are = left;
+      },
+    )
 board_left id seed board (Err refusal) (Ok said) (Some old) (Some new) says left id_is seed_is
     proved =
     files_refused (Prove id seed board) said old new
     (λ is_done. omega (arith, ap (λ (s : SaidValue). s.status) says.1, is_done)) left
 
 -- ---- `answer`
+
+answered_by : (id name : List ℕ) (challenge : Challenge) (auction : Auction) (files : Files)
+    → auction.id ≡ id → IsProvedAuction auction → challenge_of auction.phase ≡ Some challenge
+    → IsText files name challenge → HasAnswered id name files auction challenge
+answered_by id name challenge auction files id_is proved answered text =
+    let bits = subst (λ found. IfSome found (λ (c : Challenge). length c.bits ≡ auction.lanes))
+    answered proved.right.held.bits in
+    record {
+      id_is = id_is;
+      proved = proved;
+      asked = record { right = text.right; one_bit_each = bits };
+      answered = answered;
+      read = text;
+    }
+
+reply_begun : (id name reply : List ℕ) (challenge : Challenge) (auction : Auction)
+    (old new : Files) → HasAnswered id name old auction challenge
+    → (new ≡ old) ⊎ HoldsFirst reply (reply_of auction challenge) old new
+    → LeavesStopped (Answer id name reply) old new
+reply_begun id name reply challenge auction old new is (inl same) = inl same
+reply_begun id name reply challenge auction old new is (inr first) =
+    inr (auction, (challenge, is, first))
 
 pub reply_left : (id name reply : List ℕ) (challenge : Challenge)
     (answer : Result JobValue HouseErr) (result : Result SaidValue OutsideErr)
@@ -89,22 +158,21 @@ reply_left id name reply challenge answer result None now says left id_is answer
     left
 reply_left id name reply challenge answer result (Some old) None says left id_is answered proved
     text = absurd left
-reply_left id name reply challenge answer (Err stop) (Some old) (Some new) says left id_is answered
-    proved text = tt
+reply_left id name reply challenge (Ok job) (Err stop) (Some old) (Some new) says left id_is
+    answered proved text =
+    reply_begun id name reply challenge job.auction old new
+    (answered_by id name challenge job.auction old id_is proved answered text)
+    (divided_begins reply (reply_of job.auction challenge) old new left)
+reply_left id name reply challenge (Err refusal) (Err stop) (Some old) (Some new) says left id_is
+    answered proved text = inl left
 reply_left id name reply challenge (Ok job) (Ok said) (Some old) (Some new) says left id_is answered
     proved text =
-    let bits = subst (λ found. IfSome found (λ (c : Challenge). length c.bits ≡ job.auction.lanes))
-    answered proved.right.held.bits in
     files_done (Answer id name reply) said old new (ap (λ (s : SaidValue). s.status) says.1) (
       job.auction,
       (
         challenge,
         record {
-          id_is = id_is;
-          proved = proved;
-          asked = record { right = text.right; one_bit_each = bits };
-          answered = answered;
-          read = text;
+          is = answered_by id name challenge job.auction old id_is proved answered text;
           files_are = left;
         },
       ),
@@ -140,5 +208,5 @@ unread_left words name refusal None now same is = same
 unread_left words name refusal (Some old) None same is = cc
 unread_left words name (unread.Said said) (Some old) (Some new) same is =
     files_refused words said old new (challenge_refused old name said is) (same_Some new old same)
-unread_left words name unread.Failed (Some old) (Some new) same is = tt
-unread_left words name unread.NoMemory (Some old) (Some new) same is = tt
+unread_left words name unread.Failed (Some old) (Some new) same is = inl (same_Some new old same)
+unread_left words name unread.NoMemory (Some old) (Some new) same is = inl (same_Some new old same)

@@ -3,6 +3,6 @@ mod Counting
 pub mod Reading
 pub mod Working
 pub mod Written
-mod Leaving
+pub mod Leaving
 pub mod Words
 pub mod Naming

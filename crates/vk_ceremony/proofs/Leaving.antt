@@ -1,5 +1,5 @@
 -- What a ceremony leaves of the files, turn by turn, whether or not its keeper is modelled.
-use Rattle.std.proofs.Common.{◌≡◌, ℕ, zero, suc, Bool, true, false, ◌||◌, if◌then◌else◌, List, Option, Some, None, IfSome, Result, Ok, Err, refl, sym, ap, subst, ◌∙◌, inl, inr}
+use Rattle.std.proofs.Common.{◌≡◌, ℕ, zero, suc, Bool, true, false, ◌||◌, if◌then◌else◌, List, [], ◌∷◌, Option, Some, None, IfSome, Result, Ok, Err, refl, sym, ap, subst, ◌∙◌, inl, inr}
 use Rattle.vk_io.specs.Files.{Files, Modelled, bytes_of}
 use Rattle.vk_io.specs.declared.errors.OutsideErr.{OutsideErr}
 use Rattle.vk_io.proofs.WritingLemmas.{told_chain, told_same}
@@ -10,12 +10,14 @@ use Rattle.vk_effect.specs.Effects.{SaidValue, stores}
 use Rattle.vk_effect.specs.Reading.{said_of_unread, said_or_stopped}
 use Rattle.vk_words.specs.Orders.{HouseWords, Announce, AnnounceReserve, Submit, Prove, Answer, Show}
 use Rattle.vk_words.specs.Scripts.{script_words, written_name_of}
-use Rattle.vk_auctioneer.specs.Leaving.{LeavesDone, LeavesFiles}
+use Rattle.vk_auctioneer.specs.Leaving.{LeavesAsSaid, LeavesDone, LeavesFiles}
+use Rattle.vk_auctioneer.proofs.Leaving.{ended_stopped}
 use Rattle.vk_ceremony.specs.declared.holding.Turn.{Turn}
 use Rattle.vk_ceremony.specs.declared.holding.Turn.TheVariants.{Next, Ended}
 use Rattle.vk_ceremony.specs.Ceremonies.{EndsSaying, closing_said, goes_on, is_refusal}
-use Rattle.vk_ceremony.specs.Leaving.{BehindLeaves, Continues, HoldLeaves, LeavesAnswered, OrderLeaves, ScriptLeaves, TurnLeaves}
-use Rattle.vk_ceremony.specs.Scripts.{closes, script_at, script_begun, with_order}
+use Rattle.vk_ceremony.specs.Leaving.{BehindLeaves, Continues, HoldLeaves, LeavesAnswered, OrderLeaves, OrdersStop, SaidLeaves, ScriptLeaves, TurnLeaves}
+use Rattle.vk_ceremony.specs.Runs.{orders_behind, orders_in}
+use Rattle.vk_ceremony.specs.Scripts.{Script, closes, script_at, script_begun, with_order}
 use Rattle.vk_ceremony.specs.Turns.{order_then}
 use Rattle.vk_ceremony.proofs.Leading.{unread_said}
 use Rattle.vk_ceremony.proofs.Turning.{rest_stays, turned}
@@ -52,6 +54,17 @@ ended_leaves script order (suc n) files new other left =
 
 -- ---- one turn
 
+-- a command that was done or refused, and then what stands behind it
+said_leaves : (script : List ℕ) (order : HouseWords) (refused : Bool) (said : Script) (status : ℕ)
+    (answer : Result ℕ OutsideErr) (files new last : Files) → goes_on status ≡ true
+    → LeavesFiles order status files new
+    → SaidLeaves script (refused || is_refusal status) said answer new last
+    → SaidLeaves script refused (with_order order said) answer files last
+said_leaves script order refused said status (Ok ended) files new last goes left rest =
+    (status, (new, left, inl (goes, rest)))
+said_leaves script order refused said status (Err stop) files new last goes left rest =
+    inr (status, (new, left, goes, rest))
+
 -- a command that ended with that status, and then the rest of the script, or nothing more
 command_leaves : (script : List ℕ) (order : HouseWords) (refused : Bool) (before lines : LinesValue)
     (status : ℕ) (files new : Files) (test : Bool) → goes_on status ≡ test
@@ -62,19 +75,12 @@ command_leaves : (script : List ℕ) (order : HouseWords) (refused : Bool) (befo
     → TurnLeaves script refused before lines
     (Ok (if test then Next (refused || is_refusal status) else Ended status)) files new
 command_leaves script order refused before lines status files new true goes left stays reads =
-    λ last_status last rest.
-    subst (λ said. ScriptLeaves script refused said last_status files last) (sym reads) (
-      status,
-      (
-        new,
-        left,
-        inl (
-          goes,
-          subst (λ r. ScriptLeaves script (refused || is_refusal status) (script_at script r)
-              last_status new last) stays rest,
-        ),
-      ),
-    )
+    λ answer last rest.
+    subst (λ said. SaidLeaves script refused said answer files last) (sym reads)
+    (said_leaves script order refused (script_at script (rest_of lines files)) status answer files
+    new last goes left
+    (subst (λ r. SaidLeaves script (refused || is_refusal status) (script_at script r) answer new
+    last) stays rest))
 command_leaves script order refused before lines status files new false goes left stays reads =
     subst (λ said. ScriptLeaves script refused said status files new) (sym reads)
     (status, (new, left, inr (goes, refl, refl)))
@@ -94,7 +100,9 @@ turn_leaves : (script : List ℕ) (words : List (List ℕ)) (order : HouseWords)
 turn_leaves script words order refused before lines files None answer named is reads left =
     absurd left
 turn_leaves script words order refused before lines files (Some new) (Err stop) named is reads
-    left = tt
+    left =
+    subst (λ said. OrdersStop said.orders files new)
+    (sym (reads ∙ ap (λ o. order_then script o (rest_of lines files)) (sym is))) (inl left)
 turn_leaves script words order refused before lines files (Some new) (Ok status) named is reads
     left =
     command_leaves script order refused before lines status files new (goes_on status) refl left
@@ -118,21 +126,27 @@ order_left script words order refused before lines (Some files) between now answ
     turn_leaves script words order refused before lines files now answer named is reads
     (subst (λ held. Modelled (OrderLeaves order answer) held now) same left)
 
--- the command was stopped
-pub order_stopped : (script : List ℕ) (refused : Bool) (before lines : LinesValue)
-    (stop other : OutsideErr) (order : HouseWords) (held between now : Option Files)
-    → between ≡ held → Modelled (OrderLeaves order (Err other)) between now
-    → Modelled (TurnLeaves script refused before lines (Err stop)) held now
-order_stopped script refused before lines stop other order held between now same left =
-    subst (λ files. Modelled (TurnLeaves script refused before lines (Err stop)) files now) same
-    left
+-- nothing more was done
+stays_so : (orders : List HouseWords) (files : Files) → OrdersStop orders files files
+stays_so [] files = refl
+stays_so (order ∷ orders) files = inl (inl refl)
 
 -- it was stopped, and no file was written
 pub stop_left : (script : List ℕ) (refused : Bool) (before lines : LinesValue) (stop : OutsideErr)
     (held now : Option Files) → now ≡ held
     → Modelled (TurnLeaves script refused before lines (Err stop)) held now
 stop_left script refused before lines stop held now =
-    told_kept (TurnLeaves script refused before lines (Err stop)) (λ files. tt) held now
+    told_kept (TurnLeaves script refused before lines (Err stop))
+    (λ files. stays_so (script_at script (rest_of before files)).orders files) held now
+
+-- a command ended, and what it says was stopped while it was printed
+pub printing_left : (order : HouseWords) (said : SaidValue) (stop : OutsideErr)
+    (held now : Option Files) → LeavesAsSaid order (Ok said) held now
+    → Modelled (OrderLeaves order (Err stop)) held now
+printing_left order said stop None now left = left
+printing_left order said stop (Some old) None left = left
+printing_left order said stop (Some old) (Some new) left =
+    ended_stopped order said.status old new left
 
 -- what is said of the script ended it
 pub close_left : (script : List ℕ) (refused : Bool) (before lines : LinesValue)
@@ -153,7 +167,7 @@ close_left script refused before lines (Some files) now taken then_ fault status
 pub leaves_itself : (script : List ℕ) (refused : Bool) (lines : LinesValue) (held : Option Files)
     → Modelled (Continues script refused lines refused lines) held held
 leaves_itself script refused lines held =
-    told_same (Continues script refused lines refused lines) (λ files status last left. left) held
+    told_same (Continues script refused lines refused lines) (λ files answer last left. left) held
 
 pub leaves_on : (script : List ℕ) (start lines later : LinesValue) (refused now : Bool)
     (turn : Turn)
@@ -165,8 +179,8 @@ leaves_on script start lines later refused now turn old between new is =
     told_chain (Continues script false start refused lines)
     (TurnLeaves script refused lines later (Ok turn))
     (Continues script false start now later)
-    (λ first here last before turns. λ status files left. before status files
-    ((subst (λ t. TurnLeaves script refused lines later (Ok t) here last) is turns) status files
+    (λ first here last before turns. λ answer files left. before answer files
+    ((subst (λ t. TurnLeaves script refused lines later (Ok t) here last) is turns) answer files
     left))
     old between new
 
@@ -181,7 +195,7 @@ leaves_to_end script start lines later refused turn status old between new is =
     (TurnLeaves script refused lines later (Ok turn))
     (HoldLeaves script start (Ok status))
     (λ first here last before turns.
-    before status last (subst (λ t. TurnLeaves script refused lines later (Ok t) here last) is
+    before (Ok status) last (subst (λ t. TurnLeaves script refused lines later (Ok t) here last) is
     turns))
     old between new
 
@@ -193,7 +207,8 @@ pub leaves_to_stop : (script : List ℕ) (start lines later : LinesValue) (refus
 leaves_to_stop script start lines later refused stop other old between new =
     told_chain (Continues script false start refused lines)
     (TurnLeaves script refused lines later (Err stop))
-    (HoldLeaves script start (Err other)) (λ first here last before turns. tt) old between new
+    (HoldLeaves script start (Err other))
+    (λ first here last before turns. before (Err other) last turns) old between new
 
 -- ---- the whole ceremony
 
@@ -202,7 +217,8 @@ begun_by : (script : List ℕ) (lines : LinesValue) (answer : Result ℕ Outside
     → Modelled (HoldLeaves script lines answer) (Some files) now
     → Modelled (LeavesAnswered script answer) (Some files) now
 begun_by script lines answer files None is left = absurd left
-begun_by script lines (Err stop) files (Some new) is left = tt
+begun_by script lines (Err stop) files (Some new) is left =
+    subst (λ r. OrdersStop (orders_behind script r) files new) (sym is) left
 begun_by script lines (Ok status) files (Some new) is left =
     subst (λ r. BehindLeaves script r status files new) (sym is) left
 
@@ -234,4 +250,5 @@ unread_left script unread said (Some files) now taken then_ status same is gives
 pub stopped_left : (script : List ℕ) (stop : OutsideErr) (held now : Option Files) → now ≡ held
     → Modelled (LeavesAnswered script (Err stop)) held now
 stopped_left script stop held now =
-    told_kept (LeavesAnswered script (Err stop)) (λ files. tt) held now
+    told_kept (LeavesAnswered script (Err stop)) (λ files. stays_so (orders_in files script) files)
+    held now

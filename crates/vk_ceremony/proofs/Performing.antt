@@ -12,7 +12,7 @@ use Rattle.vk_effect.specs.Sequences.{StopsAmong, StopsClosing, done_all}
 use Rattle.vk_effect.proofs.Sequences.{are_one}
 use Rattle.vk_words.specs.Orders.{HouseWords}
 use Rattle.vk_auctioneer.specs.Effects.{house_effect}
-use Rattle.vk_ceremony.specs.Acts.{AreActs, GoOn, HouseAct, IsAct, Performs, PerformsAll, PerformsSome, StopsOrder}
+use Rattle.vk_ceremony.specs.Acts.{AreActs, GoOn, HouseAct, IsAct, Performs, PerformsAll, PerformsSome}
 use Rattle.vk_ceremony.specs.Ceremonies.{Ceremony, EndsAll, ceremony_on}
 use Rattle.vk_ceremony.specs.Runs.{asked_in, orders_in}
 use Rattle.vk_ceremony.proofs.Following.{Follow, ceremony_follows, ledger_by, ledger_left, order_reaches, order_told, told_each}
@@ -36,7 +36,7 @@ kept_by_effect : (order : HouseWords) (files : Files) (ledger : Ledger) (effect 
 kept_by_effect order files ledger effect is =
     ledger_left (asked_in files order) ledger effect (order_reaches files ledger order effect is)
 
-is_act : (order : HouseWords) (files : Files) (ledger : Ledger) (effect : Effect)
+abbrev is_act : (order : HouseWords) (files : Files) (ledger : Ledger) (effect : Effect)
     → house_effect (Some files) (Some ledger) order ≡ Some effect
     → IsAct (act_of order files ledger effect)
 is_act order files ledger effect is = record {
@@ -168,14 +168,14 @@ all_performed orders files ledger effects closing taken new follows is =
 -- nothing more was left after these acts
 left_so : (orders later : List HouseWords) (files : Files) (ledger : Ledger) (acts : List HouseAct)
     (left : Files) (kept : Ledger) → orders ≡ map (λ act. act.order) acts ++ later
-    → AreActs acts files ledger left kept → Performs orders files ledger acts left kept
+    → AreActs acts files ledger left kept → Performs orders files ledger acts None left kept
 left_so orders later files ledger acts left kept orders_are done = record {
   later = later;
   orders_are = orders_are;
   files_between = left;
   ledger_between = kept;
   done = done;
-  last = inl (refl, refl);
+  last = (refl, refl);
 }
 
 all_some : (orders : List HouseWords) (files : Files) (ledger : Ledger) (closing : List ℕ)
@@ -183,6 +183,7 @@ all_some : (orders : List HouseWords) (files : Files) (ledger : Ledger) (closing
     → PerformsSome orders files ledger new.files new.ledger
 all_some orders files ledger closing taken new all = record {
   acts = all.acts;
+  stop = None;
   files_left = all.files_left;
   ledger_left = all.ledger_left;
   held_is = all.held_is;
@@ -197,6 +198,7 @@ none_done : (orders : List HouseWords) (files : Files) (ledger : Ledger) (new : 
     → Holds new files ledger → PerformsSome orders files ledger new.files new.ledger
 none_done orders files ledger new holds = record {
   acts = [];
+  stop = None;
   files_left = files;
   ledger_left = ledger;
   held_is = holds.held;
@@ -206,22 +208,32 @@ none_done orders files ledger new holds = record {
 
 -- the first was stopped
 first_stopped : (order : HouseWords) (orders : List HouseWords) (files left : Files)
-    (ledger kept : Ledger) (new : Outside) → new.files ≡ Some left → new.ledger ≡ Some kept
-    → StopsOrder order files ledger left kept
+    (ledger : Ledger) (effect : Effect) (new : Outside)
+    → house_effect (Some files) (Some ledger) order ≡ Some effect → new.files ≡ Some left
+    → new.ledger ≡ effect.ledger → IsDivided effect.writes files left
     → PerformsSome (order ∷ orders) files ledger new.files new.ledger
-first_stopped order orders files left ledger kept new held_is kept_is stops = record {
+first_stopped order orders files left ledger effect new is held_is ledger_is divided = record {
   acts = [];
+  stop = Some (act_of order files ledger effect);
   files_left = left;
-  ledger_left = kept;
+  ledger_left = ledger_by (asked_in files order) ledger;
   held_is = held_is;
-  kept_is = kept_is;
+  kept_is = ledger_is ∙ kept_by_effect order files ledger effect is;
   performs = record {
     later = order ∷ orders;
     orders_are = refl;
     files_between = files;
     ledger_between = ledger;
     done = (refl, refl);
-    last = inr stops;
+    last = record {
+      others = orders;
+      orders_are = refl;
+      files_are = refl;
+      ledger_is = refl;
+      is = is_act order files ledger effect is;
+      left_is = divided;
+      kept_is = refl;
+    };
   };
 }
 
@@ -233,6 +245,7 @@ first_done : (order : HouseWords) (orders : List HouseWords) (files : Files) (le
     held kept → PerformsSome (order ∷ orders) files ledger held kept
 first_done order orders files ledger effect held kept is more = record {
   acts = act_of order files ledger effect ∷ more.acts;
+  stop = more.stop;
   files_left = more.files_left;
   ledger_left = more.ledger_left;
   held_is = more.held_is;
@@ -267,24 +280,14 @@ order_stopped order orders files ledger effect now new holds is (inl same) =
     none_done (order ∷ orders) files ledger new
     (subst (λ left. Holds left files ledger) (sym same) holds)
 order_stopped order orders files ledger effect now new holds is (inr (ledger_is, inl writing)) =
-    let kept = kept_by_effect order files ledger effect is in
     let left = found_of (IsDivided effect.writes files) new.files
     (subst (λ held. Modelled (IsDivided effect.writes) held new.files) holds.held
     writing.files_are) in
-    first_stopped order orders files left.0 ledger (ledger_by (asked_in files order) ledger) new
-    left.1 (ledger_is ∙ kept)
-    (record { effect = effect; effect_is = is; left_is = left.2; kept_is = kept })
+    first_stopped order orders files left.0 ledger effect new is left.1 ledger_is left.2
 order_stopped order orders files ledger effect now new holds is (inr (ledger_is, inr printing)) =
-    let kept = kept_by_effect order files ledger effect is in
-    let left = printing.files_are ∙ ap (option_map (written effect.writes)) holds.held in
-    first_stopped order orders files (written effect.writes files) ledger
-    (ledger_by (asked_in files order) ledger) new left (ledger_is ∙ kept)
-    (record {
-      effect = effect;
-      effect_is = is;
-      left_is = divided_all effect.writes files;
-      kept_is = kept;
-    })
+    first_stopped order orders files (written effect.writes files) ledger effect new is
+    (printing.files_are ∙ ap (option_map (written effect.writes)) holds.held) ledger_is
+    (divided_all effect.writes files)
 
 -- the closing text was
 closing_stopped : (orders : List HouseWords) (files : Files) (ledger : Ledger) (closing : List ℕ)

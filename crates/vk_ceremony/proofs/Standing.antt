@@ -27,7 +27,7 @@ use Rattle.vk_auctioneer.specs.Laws.{AreHouseWords}
 use Rattle.vk_auctioneer.specs.Lines.{reply_said}
 use Rattle.vk_auctioneer.proofs.Reading.{reads_challenge, reads_row}
 use Rattle.vk_auctioneer.proofs.Words.{script_each, then_each}
-use Rattle.vk_ceremony.specs.Acts.{AreActs, HouseAct, IsAct, IsStepOf, Performs, StopsNext}
+use Rattle.vk_ceremony.specs.Acts.{AreActs, HouseAct, IsAct, IsStepOf, Performs, StopsAt}
 use Rattle.vk_ceremony.specs.Runs.{asked_in, orders_behind, orders_in}
 use Rattle.vk_ceremony.specs.Scripts.{Order, Over, Script, ScriptLine, closes, line_then, order_line, over_from, pieces, script_at, script_begun, script_from, script_line}
 use Rattle.vk_ceremony.proofs.Following.{Reaches, ledger_by, ledger_left, order_reaches, refused_stays, step_call}
@@ -133,12 +133,16 @@ acts_last R P lasts (act ∷ acts) files ledger left kept may are =
     (acts_last R P lasts acts act.left act.kept left kept may.1 are.3)
 
 stop_lasts : (R : Ledger → Ledger → Type 0) (P : HouseWords → Type 0) → Lasts R P
-    → (orders : List HouseWords) (files : Files) (ledger : Ledger) (left : Files) (kept : Ledger)
-    → AllByRecursion P orders → StopsNext orders files ledger left kept → R ledger kept
-stop_lasts R P lasts [] files ledger left kept may stops = absurd stops
-stop_lasts R P lasts (order ∷ orders) files ledger left kept may stops =
-    subst (R ledger) (sym (kept_by_asking order files ledger kept stops.effect stops.effect_is
-    stops.kept_is)) (lasts.one files ledger order may.0)
+    → (stop : Option HouseAct) (orders : List HouseWords) (files : Files) (ledger : Ledger)
+    (left : Files) (kept : Ledger) → AllByRecursion P orders
+    → StopsAt stop orders files ledger left kept → R ledger kept
+stop_lasts R P lasts None orders files ledger left kept may same =
+    subst (R ledger) (sym same.1) (lasts.same ledger)
+stop_lasts R P lasts (Some act) orders files ledger left kept may stops =
+    let words : AllByRecursion P (act.order ∷ stops.others) =
+    subst (AllByRecursion P) stops.orders_are may in
+    subst (R ledger) (sym stops.kept_is)
+    (subst (λ found. R found act.kept) stops.ledger_is (act_lasts R P lasts act words.0 stops.is))
 
 split_all : {X : Type 0} (P : X → Type 0) (front back : List X) → AllByRecursion P (front ++ back)
     → AllByRecursion P front × AllByRecursion P back
@@ -148,19 +152,16 @@ split_all P (x ∷ front) back all = let more = split_all P front back all.1 in
 
 performs_last : (R : Ledger → Ledger → Type 0) (P : HouseWords → Type 0) → Lasts R P
     → (orders : List HouseWords) (files : Files) (ledger : Ledger) (acts : List HouseAct)
-    (left : Files) (kept : Ledger) → AllByRecursion P orders
-    → Performs orders files ledger acts left kept → R ledger kept
-performs_last R P lasts orders files ledger acts left kept may performs =
+    (stop : Option HouseAct) (left : Files) (kept : Ledger) → AllByRecursion P orders
+    → Performs orders files ledger acts stop left kept → R ledger kept
+performs_last R P lasts orders files ledger acts stop left kept may performs =
     let parts = split_all P (map (λ (act : HouseAct). act.order) acts) performs.later
     (subst (AllByRecursion P) performs.orders_are may) in
-    let done = acts_last R P lasts acts files ledger performs.files_between performs.ledger_between
-    parts.0 performs.done in
-    elim performs.last [
-      | inl same ↦ subst (R ledger) (sym same.1) done
-      | inr stops ↦ lasts.further ledger performs.ledger_between kept done
-          (stop_lasts R P lasts performs.later performs.files_between performs.ledger_between left
-          kept parts.1 stops)
-    ]
+    lasts.further ledger performs.ledger_between kept
+    (acts_last R P lasts acts files ledger performs.files_between performs.ledger_between parts.0
+    performs.done)
+    (stop_lasts R P lasts stop performs.later performs.files_between performs.ledger_between left
+    kept parts.1 performs.last)
 
 -- what lies before an act among them, and behind it
 acts_within : (R : Ledger → Ledger → Type 0) (P : HouseWords → Type 0) → Lasts R P
@@ -254,10 +255,11 @@ right_within acts files ledger left kept act are done within =
     within).0
 
 pub performs_right : (orders : List HouseWords) (files : Files) (ledger : Ledger)
-    (acts : List HouseAct) (left : Files) (kept : Ledger) → AllByRecursion AreHouseWords orders
-    → Performs orders files ledger acts left kept → IsLedger ledger → IsLedger kept
-performs_right orders files ledger acts left kept are performs =
-    performs_last StaysLedger AreHouseWords ledgers_last orders files ledger acts left kept are
+    (acts : List HouseAct) (stop : Option HouseAct) (left : Files) (kept : Ledger)
+    → AllByRecursion AreHouseWords orders → Performs orders files ledger acts stop left kept
+    → IsLedger ledger → IsLedger kept
+performs_right orders files ledger acts stop left kept are performs =
+    performs_last StaysLedger AreHouseWords ledgers_last orders files ledger acts stop left kept are
     performs
 
 -- ---- what was answered stays
@@ -293,6 +295,23 @@ acts_keep acts files ledger left kept are =
     acts_last KeepsAnswers AreAny answers_last acts files ledger left kept
     (all_any (map (λ (act : HouseAct). act.order) acts)) are
 
+-- what lies before one that was stopped
+pub right_before : (orders : List HouseWords) (files : Files) (ledger : Ledger)
+    (acts : List HouseAct) (act : HouseAct) (left : Files) (kept : Ledger)
+    → AllByRecursion AreHouseWords orders
+    → Performs orders files ledger acts (Some act) left kept → IsLedger ledger
+    → AreHouseWords act.order × IsLedger act.ledger
+right_before orders files ledger acts act left kept are performs right =
+    let parts = split_all AreHouseWords (map (λ (one : HouseAct). one.order) acts) performs.later
+    (subst (AllByRecursion AreHouseWords) performs.orders_are are) in
+    let words : AllByRecursion AreHouseWords (act.order ∷ performs.last.others) =
+    subst (AllByRecursion AreHouseWords) performs.last.orders_are parts.1 in (
+      words.0,
+      subst IsLedger (sym performs.last.ledger_is)
+          (acts_right acts files ledger performs.files_between performs.ledger_between parts.0
+          performs.done right),
+    )
+
 pub keeps_within : (acts : List HouseAct) (files : Files) (ledger : Ledger) (left : Files)
     (kept : Ledger) (act : HouseAct) → AreActs acts files ledger left kept → Contains acts act
     → KeepsAnswers ledger act.ledger × KeepsAnswers act.kept kept
@@ -301,10 +320,10 @@ keeps_within acts files ledger left kept act are within =
     (all_any (map (λ (one : HouseAct). one.order) acts)) are within
 
 pub performs_keeps : (orders : List HouseWords) (files : Files) (ledger : Ledger)
-    (acts : List HouseAct) (left : Files) (kept : Ledger)
-    → Performs orders files ledger acts left kept → KeepsAnswers ledger kept
-performs_keeps orders files ledger acts left kept performs =
-    performs_last KeepsAnswers AreAny answers_last orders files ledger acts left kept
+    (acts : List HouseAct) (stop : Option HouseAct) (left : Files) (kept : Ledger)
+    → Performs orders files ledger acts stop left kept → KeepsAnswers ledger kept
+performs_keeps orders files ledger acts stop left kept performs =
+    performs_last KeepsAnswers AreAny answers_last orders files ledger acts stop left kept
     (all_any orders) performs
 
 -- ---- the words of a script

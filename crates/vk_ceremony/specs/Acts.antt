@@ -1,5 +1,5 @@
 -- What is done at the house, command by command.
-use Rattle.std.specs.Prelude.{◌≡◌, ℕ, List, [], ◌∷◌, ◌++◌, map, Option, Some, IsTrue, IsFalse, ◌⊎◌}
+use Rattle.std.specs.Prelude.{◌≡◌, ℕ, List, [], ◌∷◌, ◌++◌, map, Option, Some, None, IsTrue, IsFalse, ◌⊎◌}
 use Rattle.std.specs.List.{flat_map}
 use Rattle.vk_io.specs.Files.{Files}
 use Rattle.vk_io.specs.Writing.{written, IsDivided}
@@ -37,16 +37,6 @@ abbrev pub IsStepOf : HouseCommand → HouseAct → Type 0
 IsStepOf command act = (act.kept ≡ (house_step act.ledger command).1)
     × (act.said ≡ reply_said command (house_step act.ledger command).0)
 
--- a command that was stopped when the house had kept what it asked: the ledger is that of its
--- effect, and its files are divided at one of them. Where its printing was stopped all of them are
--- written
-pub record StopsOrder (order : HouseWords) (files : Files) (ledger : Ledger) (left : Files)
-    (kept : Ledger) : Type 0 where
-  pub effect : Effect
-  pub effect_is : house_effect (Some files) (Some ledger) order ≡ Some effect
-  pub left_is : IsDivided effect.writes files left
-  pub kept_is : effect.ledger ≡ Some kept
-
 -- ---- one after another
 
 -- these acts were done one after another, each on what the one before left, from these files and
@@ -56,22 +46,34 @@ AreActs [] files ledger left kept = (left ≡ files) × (kept ≡ ledger)
 AreActs (act ∷ acts) files ledger left kept = (act.files ≡ files) × (act.ledger ≡ ledger)
     × IsAct act × AreActs acts act.left act.kept left kept
 
--- the next of these orders was stopped; there is one
-abbrev pub StopsNext : List HouseWords → Files → Ledger → Files → Ledger → Type 0
-StopsNext [] files ledger left kept = ⊥
-StopsNext (order ∷ orders) files ledger left kept = StopsOrder order files ledger left kept
+-- the next of these orders was stopped when the house had kept what it asked. Had it come to its
+-- end, it were this act: the ledger is the one that the act keeps, and the files are divided at one
+-- of those that it writes. Where its printing was stopped all of them are written
+pub record StopsAct (act : HouseAct) (orders : List HouseWords) (files : Files) (ledger : Ledger)
+    (left : Files) (kept : Ledger) : Type 0 where
+  pub others : List HouseWords
+  pub orders_are : orders ≡ act.order ∷ others
+  pub files_are : act.files ≡ files
+  pub ledger_is : act.ledger ≡ ledger
+  pub is : IsAct act
+  pub left_is : IsDivided is.effect.writes files left
+  pub kept_is : kept ≡ act.kept
+
+-- nothing more was left, or the next of these orders was stopped so
+abbrev pub StopsAt : Option HouseAct → List HouseWords → Files → Ledger → Files → Ledger → Type 0
+StopsAt None orders files ledger left kept = (left ≡ files) × (kept ≡ ledger)
+StopsAt (Some act) orders files ledger left kept = StopsAct act orders files ledger left kept
 
 -- the first of these orders were done, by these acts, and the later ones were not. After the acts
--- nothing more was left, or the next order was stopped
+-- nothing more was left, or the next order was stopped at this act
 pub record Performs (orders : List HouseWords) (files : Files) (ledger : Ledger)
-    (acts : List HouseAct) (left : Files) (kept : Ledger) : Type 0 where
+    (acts : List HouseAct) (stop : Option HouseAct) (left : Files) (kept : Ledger) : Type 0 where
   pub later : List HouseWords
   pub orders_are : orders ≡ map (λ act. act.order) acts ++ later
   pub files_between : Files
   pub ledger_between : Ledger
   pub done : AreActs acts files ledger files_between ledger_between
-  pub last : ((left ≡ files_between) × (kept ≡ ledger_between))
-      ⊎ StopsNext later files_between ledger_between left kept
+  pub last : StopsAt stop later files_between ledger_between left kept
 
 -- ---- as far as they came
 
@@ -80,11 +82,12 @@ pub record Performs (orders : List HouseWords) (files : Files) (ledger : Ledger)
 pub record PerformsSome (orders : List HouseWords) (files : Files) (ledger : Ledger)
     (held : Option Files) (kept : Option Ledger) : Type 0 where
   pub acts : List HouseAct
+  pub stop : Option HouseAct
   pub files_left : Files
   pub ledger_left : Ledger
   pub held_is : held ≡ Some files_left
   pub kept_is : kept ≡ Some ledger_left
-  pub performs : Performs orders files ledger acts files_left ledger_left
+  pub performs : Performs orders files ledger acts stop files_left ledger_left
 
 -- the next order follows each act but the last. After the last no order is left, or its status is
 -- one that none follows

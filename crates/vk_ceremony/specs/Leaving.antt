@@ -1,14 +1,15 @@
 -- What a ceremony leaves of the files where they are modelled, whether or not its keeper is.
-use Rattle.std.specs.Prelude.{◌≡◌, ℕ, ◌||◌, Bool, false, List, [], ◌∷◌, Result, Ok, Err, IfOk, IsTrue, IsFalse, ◌⊎◌}
+use Rattle.std.specs.Prelude.{◌≡◌, ℕ, ◌||◌, Bool, false, List, [], ◌∷◌, Result, Ok, Err, IsTrue, IsFalse, ◌⊎◌}
 use Rattle.vk_io.specs.Files.{Files}
 use Rattle.vk_io.specs.declared.errors.OutsideErr.{OutsideErr}
 use Rattle.vk_lines.specs.Lines.{LinesValue, Rest, rest_of}
 use Rattle.vk_effect.specs.Effects.{SaidValue}
 use Rattle.vk_words.specs.Orders.{HouseWords}
-use Rattle.vk_auctioneer.specs.Leaving.{LeavesFiles}
+use Rattle.vk_auctioneer.specs.Leaving.{LeavesFiles, LeavesStopped}
 use Rattle.vk_ceremony.specs.declared.holding.Turn.{Turn}
 use Rattle.vk_ceremony.specs.declared.holding.Turn.TheVariants.{Next, Ended}
 use Rattle.vk_ceremony.specs.Ceremonies.{closing_said, goes_on, is_refusal}
+use Rattle.vk_ceremony.specs.Runs.{orders_in}
 use Rattle.vk_ceremony.specs.Scripts.{Script, script_at, script_begun}
 
 -- these orders were done one after another, and each left of the files what its own status says.
@@ -38,29 +39,53 @@ BehindLeaves script (Err said) status old new = (status ≡ said.status) × (new
 abbrev pub CeremonyLeaves : List ℕ → (status : ℕ) → Files → Files → Type 0
 CeremonyLeaves script status old new = BehindLeaves script (script_begun old script) status old new
 
--- the same of one that may have been stopped
-abbrev pub LeavesAnswered : List ℕ → Result ℕ OutsideErr → Files → Files → Type 0
-LeavesAnswered script answer old new = IfOk answer (λ status. CeremonyLeaves script status old new)
+-- ---- it was stopped
 
--- and of what stands behind these lines
+-- the first of these orders were done one after another, and each left of the files what its own
+-- status says, which is one that the next order follows. That one was stopped, and left what such a
+-- one leaves; where none is left all files stay
+abbrev pub OrdersStop : List HouseWords → Files → Files → Type 0
+OrdersStop [] old new = new ≡ old
+OrdersStop (order ∷ orders) old new = LeavesStopped order old new
+    ⊎ ((ended : ℕ) × ((between : Files) × LeavesFiles order ended old between
+    × IsTrue (goes_on ended) × OrdersStop orders between new))
+
+-- what a ceremony of the script of that name leaves that was stopped
+abbrev pub CeremonyStops : List ℕ → Files → Files → Type 0
+CeremonyStops script old new = OrdersStop (orders_in old script) old new
+
+-- ---- by its answer
+
+-- what a ceremony leaves that ended or was stopped
+abbrev pub LeavesAnswered : List ℕ → Result ℕ OutsideErr → Files → Files → Type 0
+LeavesAnswered script (Ok status) old new = CeremonyLeaves script status old new
+LeavesAnswered script (Err stop) old new = CeremonyStops script old new
+
+-- and what is left by what a script of that name says
+abbrev pub SaidLeaves : List ℕ → Bool → Script → Result ℕ OutsideErr → Files → Files → Type 0
+SaidLeaves script refused said (Ok status) old new =
+    ScriptLeaves script refused said status old new
+SaidLeaves script refused said (Err stop) old new = OrdersStop said.orders old new
+
+-- by what stands behind these lines
 abbrev pub HoldLeaves : List ℕ → LinesValue → Result ℕ OutsideErr → Files → Files → Type 0
 HoldLeaves script start answer old new =
-    IfOk answer (λ status. ScriptLeaves script false (script_at script (rest_of start old)) status
-    old new)
+    SaidLeaves script false (script_at script (rest_of start old)) answer old new
 
 -- ---- a turn of it
 
--- what a command leaves that may have been stopped
+-- what a command leaves that ended or was stopped
 abbrev pub OrderLeaves : HouseWords → Result ℕ OutsideErr → Files → Files → Type 0
-OrderLeaves order answer old new = IfOk answer (λ status. LeavesFiles order status old new)
+OrderLeaves order (Ok status) old new = LeavesFiles order status old new
+OrderLeaves order (Err stop) old new = LeavesStopped order old new
 
 -- whatever is left by what stands behind these lines, what stood before them leaves from the
 -- beginning
 abbrev pub Continues : List ℕ → Bool → LinesValue → Bool → LinesValue → Files → Files → Type 0
 Continues script refused before now lines old new =
-    (status : ℕ) (last : Files)
-    → ScriptLeaves script now (script_at script (rest_of lines new)) status new last
-    → ScriptLeaves script refused (script_at script (rest_of before old)) status old last
+    (answer : Result ℕ OutsideErr) (last : Files)
+    → SaidLeaves script now (script_at script (rest_of lines new)) answer new last
+    → SaidLeaves script refused (script_at script (rest_of before old)) answer old last
 
 -- one command was done and the script goes on so, or it ended
 abbrev pub TurnLeaves : List ℕ → Bool → (before lines : LinesValue) → Result Turn OutsideErr → Files
@@ -69,4 +94,5 @@ TurnLeaves script refused before lines (Ok (Next now)) old new =
     Continues script refused before now lines old new
 TurnLeaves script refused before lines (Ok (Ended status)) old new =
     ScriptLeaves script refused (script_at script (rest_of before old)) status old new
-TurnLeaves script refused before lines (Err stop) old new = Unit {0}
+TurnLeaves script refused before lines (Err stop) old new =
+    OrdersStop (script_at script (rest_of before old)).orders old new

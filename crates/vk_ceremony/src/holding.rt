@@ -97,7 +97,7 @@ fn hold<S: Shelf, K: Keeper + Drop, W: Sink>(
 }
 
 /// Takes the next line of a script, and does its command.
-#[tactic(auto, using(crate::proofs::Turning::turn_stopped, crate::proofs::Leaving::order_stopped, crate::proofs::Leaving::stop_left))]
+#[tactic(auto, using(crate::proofs::Turning::turn_stopped, crate::proofs::Leaving::stop_left))]
 fn next<S: Shelf, K: Keeper + Drop, W: Sink>(
     alloc: Global,
     shelf: &mut S,

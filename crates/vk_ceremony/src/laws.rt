@@ -102,8 +102,8 @@ pub fn an_act_is_a_step_of_the_house()
 /// and every command line it may.
 pub fn a_ledger_stays_one_through_commands()
     ensures ledger { (orders : List HouseWords) (files : Files) (ledger : Ledger)
-        (acts : List HouseAct) (left : Files) (kept : Ledger)
-        → AllByRecursion AreHouseWords orders → Performs orders files ledger acts left kept
+        (acts : List HouseAct) (stop : Option HouseAct) (left : Files) (kept : Ledger)
+        → AllByRecursion AreHouseWords orders → Performs orders files ledger acts stop left kept
         → IsLedger ledger → IsLedger kept }
     ensures each { (acts : List HouseAct) (files : Files) (ledger : Ledger) (left : Files)
         (kept : Ledger) (act : HouseAct)
@@ -121,8 +121,8 @@ pub fn a_ledger_stays_one_through_commands()
 /// the one that it leaves to the last.
 pub fn answers_stay_through_commands()
     ensures all { (orders : List HouseWords) (files : Files) (ledger : Ledger)
-        (acts : List HouseAct) (left : Files) (kept : Ledger)
-        → Performs orders files ledger acts left kept → KeepsAnswers ledger kept }
+        (acts : List HouseAct) (stop : Option HouseAct) (left : Files) (kept : Ledger)
+        → Performs orders files ledger acts stop left kept → KeepsAnswers ledger kept }
     ensures each { (acts : List HouseAct) (files : Files) (ledger : Ledger) (left : Files)
         (kept : Ledger) (act : HouseAct)
         → AreActs acts files ledger left kept → Contains acts act → KeepsAnswers ledger act.ledger

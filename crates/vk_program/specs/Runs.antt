@@ -13,7 +13,7 @@ use Rattle.vk_words.specs.Orders.{SealWords}
 use Rattle.vk_effect.specs.Effects.{Outside, outside, stores}
 use Rattle.vk_coins.specs.Meaning.{MakesChallenge}
 use Rattle.vk_app.specs.Commands.{LeavesKeeper, RunIsDone, RunIsStopped}
-use Rattle.vk_app.specs.Promises.{Audits, ClaimExtractIsComplete, ClaimExtractIsSound, ClaimHeadline, Claims, ExtractIsComplete, ExtractIsSound, Headline, HoldsCeremony, KeepsHouse, OverFiles, RunLeaves, SamplesMatching, TellsUsage}
+use Rattle.vk_app.specs.Promises.{Audits, ClaimExtractIsComplete, ClaimExtractIsSound, ClaimHeadline, Claims, ExtractIsComplete, ExtractIsSound, Headline, HoldsCeremony, KeepsHouse, OverFiles, RunLeaves, RunStops, SamplesMatching, TellsUsage}
 use Rattle.vk_app.specs.Sealing.{Seals}
 use Rattle.vk_program.specs.Refusals.{stopped_status}
 use Rattle.vk_program.specs.Statuses.{status_behind}
@@ -65,6 +65,7 @@ pub record RunKeeps (words : List (List ℕ)) (status : ℕ) (old new : Met) : T
   pub ceremony : IfSome old.files (λ files. IfSome old.ledger
       (λ ledger. HoldsCeremony files ledger words status new.files new.ledger old.taken new.taken))
   pub leaves : status ≢ 6 → status ≢ 9 → RunLeaves words status old.files new.files
+  pub parts : (status ≡ 6) ⊎ (status ≡ 9) → RunStops words old.files new.files
   pub usage : TellsUsage words status old.taken new.taken
   pub once : Modelled KeepsAnswers old.ledger new.ledger
   pub keeper : LeavesKeeper (λ all. all.ledger) (λ all. all.house_faults) (command_words words) old

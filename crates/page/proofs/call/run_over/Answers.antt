@@ -28,5 +28,6 @@ returns-clause-run c =
       house = rw (keeps, prints) at run.house;
       ceremony = rw (keeps, prints) at run.ceremony;
       leaves = run.files;
+      parts = run.parts;
       usage = rw (prints) at run.usage;
     }

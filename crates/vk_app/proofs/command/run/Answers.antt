@@ -5,7 +5,7 @@ use Rattle.vk_effect.specs.Effects.{Outside, outside, stores}
 use Rattle.vk_app.specs.Commands.{DoesWork, work_on}
 use Rattle.vk_app.proofs.Audited.{told_audits, told_claim_headline, told_claims, told_headline}
 use Rattle.vk_app.proofs.Freely.{sampled_done, sampled_stopped}
-use Rattle.vk_app.proofs.Kept.{AlsoFree, told_ceremony, told_coin, told_house, told_seal, told_usage, unended_house}
+use Rattle.vk_app.proofs.Kept.{AlsoFree, neither, told_ceremony, told_coin, told_house, told_seal, told_usage, unended_house}
 use Rattle.vk_app.proofs.Sound.{told_claim_complete, told_claim_sound, told_complete, told_sound}
 use Rattle.vk_app.proofs.command.run.Given.{Over}
 use Rattle.vk_app.proofs.command.run.Goals.{In-Ok}
@@ -90,6 +90,10 @@ returns-in-Ok-clause-usage g c =
     (map string_bytes c.args.words.now) c.in-Ok.status (g.W.Sink.taken c.args.out.now)
     (outside (stores (g.S.Shelf.held c.perform.new.shelf) (g.K.Keeper.ledger c.perform.new.keeper))
     (g.W.Sink.taken c.perform.new.out)) c.in-Ok.ensures.ends c.in-Ok.ensures.usage
+
+pub returns-in-Ok-clause-parts : goal.returns-in-Ok-clause-parts
+returns-in-Ok-clause-parts g c = λ is.
+    neither _ c.in-Ok.status is c.in-Ok.ensures.end.0 c.in-Ok.ensures.end.1
 
 pub returns-in-Err-Failed-clause-house : goal.returns-in-Err-Failed-clause-house
 returns-in-Err-Failed-clause-house g c =

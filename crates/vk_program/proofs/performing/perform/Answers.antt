@@ -20,6 +20,7 @@ returns g c =
       house = run.house;
       ceremony = run.ceremony;
       leaves = run.files;
+      parts = run.parts;
       usage = run.usage;
       once = run.once;
       keeper = run.keeper;
