@@ -79,7 +79,9 @@ fn write_board(
     plan: &Plan,
     values: &[Residue],
 ) -> Tried<Sizes>
-    requires { Holds plan.now values.now }
+    requires some { 1 ≤ length bids.now }
+    requires most { length bids.now ≤ 64 }
+    requires values { Holds plan.now values.now }
 {
     let head = head_of(terms, plan.inputs(), sale_of(bids, terms.reserve));
     let text = head_text(alloc, &head)?;
