@@ -11,3 +11,5 @@ pub mod ReservePlans
 pub mod ReserveLaws
 pub mod BoardPlans
 pub mod BoardLaws
+pub mod SaleSelectors
+pub mod BoardCases

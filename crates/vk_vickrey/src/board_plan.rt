@@ -99,6 +99,7 @@ impl Circuit for BoardPlan {
         }
     }
 
+    /// Which selector is 1, and where there is none, `first_holders_are_selected` says.
     fn fill(&self, alloc: Global, inputs: &[Residue]) -> Result<Vec<Residue>, NoMemory>
         requires { BoardClaim (numbers_of self.now) inputs.now }
         ensures { IfOk result (λ values. values.items

@@ -58,6 +58,8 @@ impl Circuit for ReservePlan {
         Ok(plan)
     }
 
+    /// Above the reserve as without one; else there are no selectors, as
+    /// `first_holders_are_selected` says.
     fn fill(&self, alloc: Global, inputs: &[Residue]) -> Result<Vec<Residue>, NoMemory>
         requires { IsBoardClaim self.now.seals self.now.width self.now.reserve self.now.sale
             inputs.now }
