@@ -1,7 +1,6 @@
 -- The values of an auction hold for its plan, and an auction that is proved gives a proof.
-use Rattle.std.proofs.Common.{◌≡◌, ℕ, ◌-◌, ◌^◌, ◌<◌, ◌≤◌, All, List, length, Option, Some, None, IsSome, IfSome, refl, sym, ap, ◌∙◌, subst, arith, inl, inr}
+use Rattle.std.proofs.Common.{◌≡◌, ℕ, ◌-◌, ◌^◌, ◌<◌, ◌≤◌, All, List, length, Option, Some, None, IsSome, IfSome, refl, sym, ap, ◌∙◌, subst, arith}
 use Rattle.std.proofs.Math.Pow.{pow_mono}
-use Rattle.std.proofs.lemmas.Bool.{cases_eq}
 use Rattle.std.proofs.lemmas.List.{length-map}
 use Rattle.std.proofs.lemmas.List.Elements.{All-map, All-weaker}
 use Rattle.vk_residue.specs.Residue.{IsResidue}
@@ -12,6 +11,7 @@ use Rattle.vk_vickrey.specs.Sales.{IsSold, IsSale}
 use Rattle.vk_vickrey.specs.VickreyPlans.{vickrey_plan, honest_values}
 use Rattle.vk_vickrey.specs.ReservePlans.{IsReserveCase}
 use Rattle.vk_vickrey.specs.BoardPlans.{BoardNumbers, BoardClaim, IsBoardCase, board_numbers, board_plan, board_values, board_wire_count, board_row_count}
+use Rattle.vk_vickrey.specs.BoardCases.{AreBoardTerms, claimed_case, claimed_reserve_case}
 use Rattle.vk_vickrey.specs.BoardLaws.{board_complete, board_inputs, board_is_plan, board_rows, board_wires, of_plans}
 use Rattle.vk_keeper.specs.declared.auction.Auction.{Auction}
 use Rattle.vk_keeper.specs.declared.auction.SealRow.{SealRow}
@@ -51,32 +51,6 @@ pub sale_is : (auction : Auction) → 1 ≤ length auction.seals
 sale_is auction sealed = sales.sale_is (bids_of auction) auction.reserve
     (omega (arith, length_bids auction))
 
--- what its board publishes is within the limits, in either version
-pub reserve_case : (auction : Auction) → IsAuction auction → 1 ≤ length auction.seals
-    → IsReserveCase (length auction.seals) auction.width auction.reserve (sale_in auction)
-reserve_case auction right sealed = record {
-  some_seals = sealed;
-  most_seals = right.held.few_seals;
-  wide = right.held.size.width;
-  reserve_within_width = right.terms.small;
-  sale_case = sales.sale_case (bids_of auction) (length auction.seals) auction.width auction.reserve
-      (length_bids auction) (bids_within auction right) right.terms.small (sale_in auction) sealed
-      (sale_is auction sealed);
-}
-
-pub case_is : (auction : Auction) → IsAuction auction → 1 ≤ length auction.seals
-    → IsBoardCase (numbers_in auction)
-case_is auction right sealed =
-    let case = reserve_case auction right sealed in
-    elim (cases_eq auction.version 1) [
-      | inl one ↦ inl (
-        one,
-        sales.first_case (length auction.seals) auction.width auction.reserve
-            (sale_in auction) case (right.terms.unnamed (omega arith)),
-      )
-      | inr other ↦ inr (omega (arith, other, right.terms.least, right.terms.most), case)
-    ]
-
 pub claim_is : (auction : Auction) → IsAuction auction → 1 ≤ length auction.seals
     → BoardClaim (numbers_in auction) (bids_of auction)
 claim_is auction right sealed =
@@ -85,6 +59,31 @@ claim_is auction right sealed =
       within_width = bids_within auction right;
       is_sale = sale_is auction sealed;
     }
+
+-- so what its board publishes is within the limits, in either version
+terms_are : (auction : Auction) → IsAuction auction → 1 ≤ length auction.seals
+    → AreBoardTerms (numbers_in auction)
+terms_are auction right sealed = record {
+  least_version = right.terms.least;
+  most_version = right.terms.most;
+  some_seals = sealed;
+  most_seals = right.held.few_seals;
+  wide = right.held.size.width;
+  reserve_within_width = right.terms.small;
+  unnamed = λ one. right.terms.unnamed (omega (arith, one));
+}
+
+pub reserve_case : (auction : Auction) → IsAuction auction → 1 ≤ length auction.seals
+    → IsReserveCase (length auction.seals) auction.width auction.reserve (sale_in auction)
+reserve_case auction right sealed =
+    claimed_reserve_case (numbers_in auction) (bids_of auction) (terms_are auction right sealed)
+    (claim_is auction right sealed)
+
+pub case_is : (auction : Auction) → IsAuction auction → 1 ≤ length auction.seals
+    → IsBoardCase (numbers_in auction)
+case_is auction right sealed =
+    claimed_case (numbers_in auction) (bids_of auction) (terms_are auction right sealed)
+    (claim_is auction right sealed)
 
 -- the same of numbers that are the auction's
 pub case_of : (auction : Auction) (seals : ℕ) (sale : Sale) → IsAuction auction

@@ -33,9 +33,12 @@ pub fn moved_tapes_give_the_same_views()
 
 /// A law of any two lists of bids, equally many and below 2^width each, of which an auction
 /// publishes one sale under one reserve, in either version of a board: a winner and a price, or
-/// that nothing is sold. Their values hold for one plan. So for either bit and any tape, the first
-/// bids with the tape and the other bids with the moved tape give one view, and back; and each view
-/// arises from equally many tapes, in a lane and over all lanes of any challenge.
+/// that nothing is sold. Nothing else is asked but that there are 1 to 64 of them, the width is 1
+/// to 40, and the reserve is below 2^width, and 0 in version 1.
+///
+/// Their values hold for one plan. So for either bit and any tape, the first bids with the tape and
+/// the other bids with the moved tape give one view, and back; and each view arises from equally
+/// many tapes, in a lane and over all lanes of any challenge.
 ///
 /// A losing bid is hidden among all that leave the outcome as it is, as far as what is opened and
 /// posted tells. That digests hide what isn't opened is not claimed.
