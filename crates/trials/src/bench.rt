@@ -5,6 +5,7 @@ use crate::text::Text;
 use std::alloc::Global;
 use vk_app::run;
 use vk_cases::{Tried, behind, lines_in, words_of};
+use vk_effect::Said;
 use vk_io::{MemShelf, MemSink, PieceShelf, Shelf};
 use vk_keeper::MemKeeper;
 
@@ -24,7 +25,7 @@ pub struct Bench {
     pub shelf: PieceShelf,
     line: Text,
     out: MemSink,
-    /// How many bytes had been printed before the last command.
+    /// How many bytes had been printed before what was printed last.
     printed: usize,
 }
 
@@ -63,7 +64,14 @@ impl Bench {
         Ok(())
     }
 
-    /// What the last command printed.
+    /// Prints what is said.
+    pub fn say(&mut self, said: &Said) -> Tried<()> {
+        self.printed = self.out.bytes().len();
+        said.print(&mut self.out)?;
+        Ok(())
+    }
+
+    /// What was printed last.
     pub fn said(&self) -> &[u8] {
         behind(self.out.bytes(), self.printed)
     }
@@ -71,12 +79,17 @@ impl Bench {
     /// The counts of the wires and rows in a lane, and of the lines of the files.
     pub fn push_lengths(&self, text: &mut Text, sizes: Sizes) {
         let files = self.shelf.inner();
-        text.count(b"wires", u64::from(sizes.wires));
-        text.count(b"rows", u64::from(sizes.rows));
+        push_sizes(text, sizes);
         text.count(b"board", lines_in(files, "board"));
         text.count(b"reply", lines_in(files, Asked::Zeros.reply()));
         text.word(b"\n");
     }
+}
+
+/// The counts of the wires and rows in a lane.
+pub fn push_sizes(text: &mut Text, sizes: Sizes) {
+    text.count(b"wires", u64::from(sizes.wires));
+    text.count(b"rows", u64::from(sizes.rows));
 }
 
 /// These words, and the names of what is asked and of the reply.

@@ -5,6 +5,7 @@ ghost use Rattle.vk_matching.specs.MatchingPlans.{IsMatchingClaim};
 
 use crate::asked::Asked;
 use crate::bench::{Bench, Sizes, push_same, push_values, push_without_openings};
+use crate::checks::push_checked;
 use crate::honest::{ID, Sealing, Terms, plan_and_values, residues, write_files};
 use crate::proposals::{drawn_ranks, rank_words};
 use crate::text::Text;
@@ -16,6 +17,7 @@ use vk_matching::{MatchingPlan, propose};
 use vk_plan::Plan;
 use vk_residue::{NoMemory, Residue};
 use vk_seq::Seq;
+use vk_words::ExtractNames;
 
 /// As many women as men, and how their ranks are sealed.
 #[derive(Clone, Copy)]
@@ -81,8 +83,18 @@ fn push_tried(bench: &mut Bench, text: &mut Text, couples: Couples, ranks: &[u64
     text.word(bench.said());
     bench.run_asked(text, b"claim-verify board", Asked::Ones)?;
     text.word(bench.said());
+    push_checked(bench, text, &names())?;
     bench.run_asked(text, b"claim-extract board zeros reply-zeros", Asked::Ones)?;
     push_extracted(bench, text, couples, ranks)
+}
+
+/// The names of the claim's file, and of two replies that differ in each lane.
+fn names() -> ExtractNames<'static> {
+    ExtractNames {
+        board: "board",
+        first: Asked::Zeros.attempt(),
+        second: Asked::Ones.attempt(),
+    }
 }
 
 /// The counts of the claim.

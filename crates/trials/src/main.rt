@@ -1,11 +1,13 @@
 //! Honest auctions and claims, whose files the library's own parts make and the program judges and
-//! extracts from; matchings that are proposed; and samples over files that stay as they are. Of
+//! extracts from; matchings that are proposed; claim files whose lanes are read beside two replies;
+//! and samples over files that stay as they are. Of
 //! each it prints what came of it.
 #![tactic(auto)]
 
 mod asked;
 mod auctions;
 mod bench;
+mod checks;
 mod claims;
 mod honest;
 mod parts;
@@ -27,6 +29,7 @@ impl Replay for Trials {
         auctions::try_auctions(alloc, shelf, out)?;
         proposals::try_proposals(alloc, out)?;
         claims::try_claims(alloc, out)?;
+        checks::try_checks(alloc, shelf, out)?;
         samples::try_samples(alloc, shelf, out)?;
         sayings::try_sayings(alloc, out)?;
         Ok(())

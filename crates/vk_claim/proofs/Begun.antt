@@ -1,16 +1,20 @@
--- What is said of modelled content of a claim file, from what is said of the lanes behind its
+-- What is said of a claim file whose lanes are read, from what is said of the lanes behind its
 -- front.
-use Rattle.std.proofs.Common.{◌≡◌, false, Option, Some, None, IfSome, option_map, Ok, Err, refl, ap}
+use Rattle.std.proofs.Common.{◌≡◌, false, Option, Some, None, IfSome, option_map, Ok, Err, refl, ap, subst, sym}
 use Rattle.vk_io.specs.Files.{Files}
+use Rattle.vk_judge.specs.declared.stage.Base.{Base}
 use Rattle.vk_judge.specs.declared.stage.Finding.TheVariants.{Refused}
 use Rattle.vk_judge.specs.declared.stage.Stage.{Stage}
 use Rattle.vk_judge.specs.declared.stage.TwoLane.{TwoLane}
-use Rattle.vk_judge.specs.Two.{GoesOn, ahead_of}
+use Rattle.vk_judge.specs.Two.{GoesOn, ahead_of, base_of}
 use Rattle.vk_judge.proofs.Held.{if_held}
+use Rattle.vk_claim.specs.declared.claim.Claim.{Claim}
 use Rattle.vk_claim.specs.declared.head.ClaimHead.{ClaimHead}
 use Rattle.vk_claim.specs.declared.two.ClaimCourse.{ClaimCourse}
 use Rattle.vk_claim.specs.declared.verdict.ClaimVerdict.{ClaimVerdict}
-use Rattle.vk_claim.specs.Two.{Checked, ClaimGoesOn, as_claim_ahead, as_claim_finding, claim_ahead}
+use Rattle.vk_claim.specs.Values.{Plans}
+use Rattle.vk_claim.specs.Verdicts.{IsClaim}
+use Rattle.vk_claim.specs.Two.{Checked, ClaimGoesOn, IsClaimBase, as_claim_ahead, as_claim_finding, claim_ahead, claim_base, with_head}
 
 abbrev pub course_with : ClaimHead → Stage → ClaimCourse
 course_with head lanes = record { head = head; lanes = lanes }
@@ -37,3 +41,21 @@ pub none_goes_on : (held : Option Files) (checked : Checked) (verdict : ClaimVer
 none_goes_on None checked verdict is = tt
 none_goes_on (Some files) checked verdict is =
     (Refused false verdict, refl, ap (λ (c : Checked). claim_ahead c files) is)
+
+-- ---- the claim that was read
+
+known : (plans : Plans) (claim : Claim) (base : Option Base) → IsClaim plans claim
+    → IfSome base (λ b. b.statement ≡ claim.statement)
+    → IfSome (option_map (with_head claim.head) base) (IsClaimBase plans)
+known plans claim None is same = tt
+known plans claim (Some base) is same =
+    subst (λ s. IsClaim plans (record { head = claim.head; statement = s })) (sym same) is
+
+-- where the lanes are held to it, what is known before the first lane is that claim
+pub claim_known : (plans : Plans) (claim : Claim) (course : ClaimCourse) → IsClaim plans claim
+    → course.head ≡ claim.head
+    → IfSome (base_of course.lanes) (λ b. b.statement ≡ claim.statement)
+    → IfSome (claim_base (Ok course)) (IsClaimBase plans)
+claim_known plans claim course is heads same =
+    subst (λ h. IfSome (option_map (with_head h) (base_of course.lanes)) (IsClaimBase plans))
+    (sym heads) (known plans claim (base_of course.lanes) is same)

@@ -15,7 +15,7 @@ use Rattle.vk_claim.specs.declared.head.ClaimHead.{ClaimHead}
 use Rattle.vk_claim.specs.declared.two.ClaimCourse.{ClaimCourse}
 use Rattle.vk_claim.specs.declared.verdict.ClaimVerdict.{ClaimVerdict}
 use Rattle.vk_claim.specs.Values.{Plans}
-use Rattle.vk_claim.specs.Verdicts.{IsOfHead, as_claim, claim_at}
+use Rattle.vk_claim.specs.Verdicts.{IsClaim, IsOfHead, as_claim, claim_at}
 
 -- what is found behind the front, as it is told of a claim file
 abbrev pub as_claim_finding : Finding Fault → Finding ClaimVerdict
@@ -47,6 +47,14 @@ pub record ClaimBase : Type 0 where
 
 abbrev pub with_head : ClaimHead → Base → ClaimBase
 with_head head base = record { head = head; base = base }
+
+-- the claim that was read
+abbrev pub claim_in : ClaimBase → Claim
+claim_in known = record { head = known.head; statement = known.base.statement }
+
+-- its public part is admitted, and the lanes are held to that part's plan
+abbrev pub IsClaimBase : Plans → ClaimBase → Type 0
+IsClaimBase plans known = IsClaim plans (claim_in known)
 
 -- what was read before the first lane, where there was no fault before it
 abbrev pub base_after_claim : Result (Claim × Rest) ClaimVerdict → Rest → Rest → Rest → Rest

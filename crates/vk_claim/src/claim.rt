@@ -1,7 +1,8 @@
 // What the lanes of a claim file are to show.
-ghost use Rattle.std.specs.Prelude.{◌≡◌, IfOk, IfSome};
+ghost use Rattle.std.specs.Prelude.{◌≡◌, IfOk, IfSome, IsErrOf};
 ghost use Rattle.vk_lines.specs.Lines.{OnlyReads, rest_of};
 ghost use Rattle.vk_judge.specs.Behind.{and_rest};
+ghost use Rattle.vk_judge.specs.Wanting.{MemoryWasWanting};
 ghost use Rattle.vk_claim.specs.Values.{IsClaimFront, plan_for};
 ghost use Rattle.vk_claim.specs.Verdicts.{IsClaim, claim_at, claim_with};
 
@@ -25,7 +26,7 @@ pub struct Claim {
 
 /// Reads a claim file before its first lane. The verdict on it is known where a line isn't what its
 /// place demands, and then where the public part isn't admitted.
-#[tactic(auto, unfolding(crate::specs::Verdicts::claim_at))]
+#[tactic(auto, unfolding(crate::specs::Verdicts::claim_at), using(vk_judge::specs::Wanting::memory_was_wanting))]
 pub fn read_claim<S: Shelf, Q: Circuits>(
     alloc: Global,
     shelf: &mut S,
@@ -36,6 +37,7 @@ pub fn read_claim<S: Shelf, Q: Circuits>(
         claim_at (Q.admitted circuits.now) (rest_of lines.old files)
         ≡ and_rest claim (rest_of lines.new files))) }
     ensures right { IfOk result (λ claim. IfOk claim (IsClaim (Q.admitted circuits.now))) }
+    ensures wanting { IsErrOf result OutsideErr.NoMemory → MemoryWasWanting }
     ensures shelf { OnlyReads S.held S.Shelf.faults OutsideErr.Failed result shelf.old shelf.new }
 {
     let read = in_part(Part::Board, read_claim_front(alloc, shelf, lines));

@@ -1,9 +1,10 @@
 // What two replies to a claim file come to.
-ghost use Rattle.std.specs.Prelude.{◌≡◌, IfOk, IfSome};
+ghost use Rattle.std.specs.Prelude.{◌≡◌, IfOk, IfSome, IsErrOf};
 ghost use Rattle.vk_lines.specs.Gives.{Gives};
 ghost use Rattle.vk_lines.specs.Lines.{OnlyReads};
 ghost use Rattle.vk_judge.specs.Begun.{unread_file};
 ghost use Rattle.vk_judge.specs.Two.{of_two};
+ghost use Rattle.vk_judge.specs.Wanting.{MemoryWasWanting};
 ghost use Rattle.vk_claim.specs.Extraction.{ShowsClaims, claim_extraction, claim_extraction_named, claim_extraction_with};
 
 use crate::circuits::Circuits;
@@ -42,6 +43,7 @@ pub fn extract_claim<S: Shelf, Q: Circuits>(
     ensures modelled { IfSome (S.held shelf.old) (λ files. Gives unread_file (λ found. found) result
         (claim_extraction_named (Q.admitted circuits.now) files names.now)) }
     ensures shows { IfOk result (ShowsClaims (Q.admitted circuits.now) (Q.claim circuits.now)) }
+    ensures wanting { IsErrOf result VErr.NoMemory → MemoryWasWanting }
     ensures shelf { OnlyReads S.held S.Shelf.faults VErr.Failed result shelf.old shelf.new }
 {
     let mut two = names.begin(alloc, shelf)?;

@@ -1,11 +1,12 @@
 // Two replies to a claim file, side by side.
-ghost use Rattle.std.specs.Prelude.{◌≡◌, None, Some, Ok, IfOk, IfSome, IsSomeAnd};
+ghost use Rattle.std.specs.Prelude.{◌≡◌, None, Some, Ok, IfOk, IfSome, IsErrOf, IsSomeAnd};
 ghost use Rattle.vk_lines.specs.Gives.{Gives};
 ghost use Rattle.vk_lines.specs.Lines.{OnlyReads};
 ghost use Rattle.vk_judge.specs.Begun.{unread_file};
-ghost use Rattle.vk_judge.specs.Two.{BothAreAccepted, of_two};
+ghost use Rattle.vk_judge.specs.Two.{BothAreAccepted, base_of, of_two};
+ghost use Rattle.vk_judge.specs.Wanting.{MemoryWasWanting};
 ghost use Rattle.vk_claim.specs.Verdicts.{IsOfHead};
-ghost use Rattle.vk_claim.specs.Two.{ClaimGoesOn, HasClaim, IsChecked, IsClaimCourse, IsClaimOver, IsLaneStep, ahead_after_claim, as_claim_finding, base_after_claim, claim_ahead, claim_base, claim_base_on, claim_finding, claim_given, two_claims_on};
+ghost use Rattle.vk_claim.specs.Two.{ClaimGoesOn, HasClaim, IsChecked, IsClaimBase, IsClaimCourse, IsClaimOver, IsLaneStep, ahead_after_claim, as_claim_finding, base_after_claim, claim_ahead, claim_base, claim_base_on, claim_finding, claim_given, two_claims_on};
 
 use crate::circuits::Circuits;
 use crate::claim::{Claim, read_claim};
@@ -48,7 +49,7 @@ impl ClaimChecker {
     /// Begins the files, and reads the claim file before its first lane, both challenges and the
     /// heads of both replies. Errs where a file is missing or longer than 2^30 bytes, and names the
     /// first that is, in the order of the names; where the shelf fails; and for want of memory.
-    #[tactic(auto, using(crate::proofs::Named::two_begun, crate::proofs::Named::base_begun))]
+    #[tactic(auto, using(crate::proofs::Named::two_begun, crate::proofs::Named::base_begun, crate::proofs::Begun::claim_known))]
     pub fn start<S: Shelf, Q: Circuits>(
         alloc: Global,
         shelf: &mut S,
@@ -67,7 +68,10 @@ impl ClaimChecker {
             (λ files. Gives unread_file (λ checker. claim_base checker) result
             (claim_base_on (Q.admitted circuits.now) files board.now challenge1.now reply1.now
             challenge2.now reply2.now)) }
+        ensures claim { IfOk result
+            (λ checker. IfSome (claim_base checker) (IsClaimBase (Q.admitted circuits.now))) }
         ensures none_given { IfOk result (λ checker. claim_given checker ≡ 0) }
+        ensures wanting { IsErrOf result VErr.NoMemory → MemoryWasWanting }
         ensures shelf { OnlyReads S.held S.Shelf.faults VErr.Failed result shelf.old shelf.new }
     {
         let names = TwoReplies {
@@ -100,6 +104,7 @@ impl ClaimChecker {
         ensures modelled { IfSome (S.held shelf.old)
             (λ files. IfOk result (λ next. ClaimGoesOn self next.1 next.0 files)) }
         ensures step { IfOk result (λ next. IsLaneStep self next.1 next.0) }
+        ensures wanting { IsErrOf result OutsideErr.NoMemory → MemoryWasWanting }
         ensures shelf { OnlyReads S.held S.Shelf.faults OutsideErr.Failed result shelf.old
             shelf.new }
     {
@@ -168,6 +173,7 @@ impl ClaimCourse {
             (λ files. IfOk result (λ next. ClaimGoesOn (Ok self) next.1 (Ok next.0) files)) }
         ensures right { IfOk result (λ next. IsClaimCourse next.0) }
         ensures step { IfOk result (λ next. IsLaneStep (Ok self) next.1 (Ok next.0)) }
+        ensures wanting { IsErrOf result OutsideErr.NoMemory → MemoryWasWanting }
         ensures shelf { OnlyReads S.held S.Shelf.faults OutsideErr.Failed result shelf.old
             shelf.new }
     {
@@ -191,8 +197,12 @@ fn begin_course<S: Shelf>(
     ensures base { IfSome (S.held shelf.old)
         (λ files. IfOk result (λ course. claim_base (Ok course)
         ≡ of_two (λ file. base_after_claim (Ok (claim, file))) two files)) }
+    ensures head { IfOk result (λ course. course.head ≡ claim.head) }
+    ensures statement { IfOk result
+        (λ course. IfSome (base_of course.lanes) (λ base. base.statement ≡ claim.statement)) }
     ensures right { IfOk result IsClaimCourse }
     ensures none_given { IfOk result (λ course. claim_given (Ok course) ≡ 0) }
+    ensures wanting { IsErrOf result OutsideErr.NoMemory → MemoryWasWanting }
     ensures shelf { OnlyReads S.held S.Shelf.faults OutsideErr.Failed result shelf.old shelf.new }
 {
     let Claim { head, statement } = claim;

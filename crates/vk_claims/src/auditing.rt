@@ -1,6 +1,8 @@
 //! A command on claims over a shelf of files.
 
+ghost use Rattle.std.specs.Prelude.{IsErrOf};
 ghost use Rattle.vk_io.specs.Reads.{OnlyReads};
+ghost use Rattle.vk_judge.specs.Wanting.{MemoryWasWanting};
 ghost use Rattle.vk_words.specs.Names.{extract_seen, verify_seen};
 ghost use Rattle.vk_audit.specs.Audits.{Says};
 ghost use Rattle.vk_claims.specs.Orders.{Extract, Verify, claim_order_seen, claim_said};
@@ -23,6 +25,7 @@ pub enum ClaimOrder<'a> {
 }
 
 /// What is said of a reply to a claim file.
+#[tactic(auto, using(vk_judge::specs::Wanting::memory_was_wanting))]
 fn claim_verified<S: Shelf>(
     alloc: Global,
     shelf: &mut S,
@@ -30,6 +33,7 @@ fn claim_verified<S: Shelf>(
 ) -> Result<Said, OutsideErr>
     ensures said { Says (S.held shelf.old) result
         (λ files. claim_said files (Verify (verify_seen names.entry))) }
+    ensures wanting { IsErrOf result OutsideErr.NoMemory → MemoryWasWanting }
     ensures shelf { OnlyReads S.held S.Shelf.faults OutsideErr.Failed result shelf.old shelf.new }
 {
     let VerifyNames { board, attempt } = names;
@@ -48,6 +52,7 @@ fn claim_answered<S: Shelf>(
     shelf: &mut S,
     names: ExtractNames<'_>,
 ) -> Result<Said, OutsideErr>
+    ensures wanting { IsErrOf result OutsideErr.NoMemory → MemoryWasWanting }
     ensures shelf { OnlyReads S.held S.Shelf.faults OutsideErr.Failed result shelf.old shelf.new }
     ensures said { Says (S.held shelf.old) result
         (λ files. claim_said files (Extract (extract_seen names.entry))) }
@@ -65,6 +70,7 @@ pub fn audit_claim<S: Shelf>(
     shelf: &mut S,
     order: &ClaimOrder<'_>,
 ) -> Result<Said, OutsideErr>
+    ensures wanting { IsErrOf result OutsideErr.NoMemory → MemoryWasWanting }
     ensures shelf { OnlyReads S.held S.Shelf.faults OutsideErr.Failed result shelf.old shelf.new }
     ensures said { Says (S.held shelf.old) result
         (λ files. claim_said files (claim_order_seen order.now)) }

@@ -1,7 +1,8 @@
 //! What is said of what two replies to a claim file come to.
 
-ghost use Rattle.std.specs.Prelude.{◌≡◌, IfOk, Ok};
+ghost use Rattle.std.specs.Prelude.{◌≡◌, IfOk, IsErr, Ok};
 ghost use Rattle.vk_commit.specs.Commitment.{TwoOpeningsSeen};
+ghost use Rattle.vk_judge.specs.Wanting.{MemoryWasWanting};
 ghost use Rattle.vk_bids.specs.Texts.{clash_text};
 ghost use Rattle.vk_bids.specs.declared.extraction.Extraction.TheVariants as comes;
 ghost use Rattle.vk_words.specs.Names.{extract_seen};
@@ -18,6 +19,7 @@ use vk_words::ExtractNames;
 
 /// What is said of a reply that isn't accepted, or of what two accepted replies come to. A clash
 /// takes no memory.
+#[tactic(auto, using(vk_judge::specs::Wanting::memory_was_wanting))]
 pub fn claim_extracted(
     alloc: Global,
     names: &ExtractNames<'_>,
@@ -27,6 +29,7 @@ pub fn claim_extracted(
         → result ≡ Ok (record { status = 3; text = clash_text two }) }
     ensures said { IfOk result
         (λ said. said ≡ claim_extraction_said (extract_seen names.now) extraction.now) }
+    ensures wanting { IsErr result → MemoryWasWanting }
 {
     match extraction {
         Extraction::Same => Ok(same_challenge()),

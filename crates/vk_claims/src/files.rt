@@ -1,9 +1,10 @@
 // The files of a sample's claim.
-ghost use Rattle.std.specs.Prelude.{◌≡◌, ◌≤◌, length, IfOk};
+ghost use Rattle.std.specs.Prelude.{◌≡◌, ◌≤◌, length, IfOk, IsErrOf};
 ghost use Rattle.vk_io.specs.Faults.{Causes};
 ghost use Rattle.vk_io.specs.Files.{Modelled};
 ghost use Rattle.vk_io.specs.Writing.{WritesAll};
 ghost use Rattle.vk_job.specs.Proofs.{IsProof};
+ghost use Rattle.vk_judge.specs.Wanting.{MemoryWasWanting};
 ghost use Rattle.vk_claim.specs.Texts.{claim_head_text};
 ghost use Rattle.vk_claims.specs.Claims.{IsReady, head_with, kind_in, proof_in};
 ghost use Rattle.vk_claims.specs.Texts.{files_of};
@@ -54,6 +55,7 @@ fn head_of(
 
 /// Writes the claim file, both challenges and the replies to them, lane by lane. Files that stand
 /// there are replaced.
+#[tactic(auto, using(vk_judge::specs::Wanting::memory_was_wanting))]
 pub fn write_claim<S: Shelf>(
     alloc: Global,
     shelf: &mut S,
@@ -70,6 +72,7 @@ pub fn write_claim<S: Shelf>(
     ensures written { Modelled
         (WritesAll (files_of kind case.now numbers.now (proof_in case.now made.now)) result)
         (S.held shelf.old) (S.held shelf.new) }
+    ensures wanting { IsErrOf result OutsideErr.NoMemory → MemoryWasWanting }
     ensures causes { Causes OutsideErr.Failed result (S.Shelf.faults shelf.old)
         (S.Shelf.faults shelf.new) }
 {

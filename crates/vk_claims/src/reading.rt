@@ -1,7 +1,8 @@
 // The files of a sample's claim, as they are read back.
-ghost use Rattle.std.specs.Prelude.{◌≡◌, IfOk, IfSome, string_bytes};
+ghost use Rattle.std.specs.Prelude.{◌≡◌, IfOk, IfSome, IsErrOf, string_bytes};
 ghost use Rattle.std.specs.List.{flat_map};
 ghost use Rattle.vk_io.specs.Reads.{OnlyReads};
+ghost use Rattle.vk_judge.specs.Wanting.{MemoryWasWanting};
 ghost use Rattle.vk_claims.specs.Texts.{claim_read, read_said};
 
 use crate::circuits::ClaimCircuits;
@@ -23,6 +24,7 @@ pub fn read_back<S: Shelf>(
     ensures said { IfSome (S.held shelf.old)
         (λ files. IfOk result (λ said. said
         ≡ read_said (flat_map string_bytes made.items) (claim_read files))) }
+    ensures wanting { IsErrOf result OutsideErr.NoMemory → MemoryWasWanting }
     ensures shelf { OnlyReads S.held S.Shelf.faults OutsideErr.Failed result shelf.old shelf.new }
 {
     let names = claim_names();

@@ -1,5 +1,6 @@
-ghost use Rattle.std.specs.Prelude.{◌≡◌, ℕ, Ok};
+ghost use Rattle.std.specs.Prelude.{◌≡◌, ℕ, IsErrOf, Ok};
 ghost use Rattle.vk_io.specs.Faults.{Causes};
+ghost use Rattle.vk_judge.specs.Wanting.{MemoryWasWanting};
 ghost use Rattle.vk_report.specs.Samples.{IsCaseOf};
 ghost use Rattle.vk_sample_parts.specs.Effects.{ActsAs};
 ghost use Rattle.vk_claims.specs.Claims.{IsReady, MayPublish, proof_by, proof_in, sizes_of};
@@ -80,6 +81,7 @@ fn hold<S: Shelf>(
         (λ ledger. effect_by kind (S.held shelf.old) ledger number case.now numbers.now
         (Ok (proof_in case.now made.now)))
         result (S.held shelf.old) (S.held shelf.new) }
+    ensures wanting { IsErrOf result OutsideErr.NoMemory → MemoryWasWanting }
     ensures causes { Causes OutsideErr.Failed result (S.Shelf.faults shelf.old)
         (S.Shelf.faults shelf.new) }
 {

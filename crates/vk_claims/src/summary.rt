@@ -1,6 +1,10 @@
 // What is said of a sample's claim.
-ghost use Rattle.std.specs.Prelude.{◌≡◌, ◌++◌, IfOk, length, string_bytes};
+ghost use Rattle.std.specs.Prelude.{◌≡◌, ◌++◌, IfOk, IsErr, Ok, length, string_bytes};
 ghost use Rattle.std.specs.List.{flat_map};
+ghost use Rattle.vk_commit.specs.Commitment.{TwoOpeningsSeen};
+ghost use Rattle.vk_judge.specs.Wanting.{MemoryWasWanting};
+ghost use Rattle.vk_bids.specs.Texts.{clash_text};
+ghost use Rattle.vk_bids.specs.declared.extraction.Extraction.TheVariants as comes;
 ghost use Rattle.vk_sample_parts.specs.Texts.{found_text, same_count};
 ghost use Rattle.vk_claim.specs.Texts.{kind_word};
 ghost use Rattle.vk_claims.specs.Claims.{kind_in};
@@ -28,6 +32,7 @@ fn kind_name(kind: ClaimKind) -> &'static str
 }
 
 /// The lines of the claim as it was made, by its circuit and the number of its lanes.
+#[tactic(auto, using(vk_judge::specs::Wanting::memory_was_wanting))]
 pub fn made_lines(
     alloc: Global,
     kind: ClaimKind,
@@ -35,8 +40,9 @@ pub fn made_lines(
     lanes: u32,
     plan: &Plan,
 ) -> Result<Vec<String>, NoMemory>
-    ensures { IfOk result (λ text. flat_map string_bytes text.items
+    ensures made { IfOk result (λ text. flat_map string_bytes text.items
         ≡ made_text kind number lanes plan.now) }
+    ensures wanting { IsErr result → MemoryWasWanting }
 {
     let mut text = Vec::new(alloc);
     let (name, inputs, wires, rows) = (kind_name(kind), plan.inputs(), plan.wires(), plan.rows());
@@ -62,14 +68,18 @@ fn values_lines(
     Ok(text)
 }
 
-/// What is said of what the replies come to as they were read back.
+/// What is said of what the replies come to as they were read back. A clash takes no memory.
+#[tactic(auto, using(vk_judge::specs::Wanting::memory_was_wanting))]
 pub fn opened(
     alloc: Global,
     made: Vec<String>,
     extraction: &ClaimExtraction,
 ) -> Result<Said, NoMemory>
-    ensures { IfOk result (λ said. said
+    ensures said { IfOk result (λ said. said
         ≡ opened_said (flat_map string_bytes made.items) extraction.now) }
+    ensures clash { (two : TwoOpeningsSeen) → extraction.now ≡ comes.Clash two
+        → result ≡ Ok (record { status = 3; text = clash_text two }) }
+    ensures wanting { IsErr result → MemoryWasWanting }
 {
     match extraction {
         Extraction::Bids(found) => {

@@ -30,7 +30,7 @@ pub returns-clause-acts : goal.returns-clause-acts
 returns-clause-acts g c = λ ledger.
     read_acts c.args.kind c.args.case.now c.requires.right c.args.numbers.now
     c.requires.published (proof_in c.args.case.now c.args.made.now) c.requires.made
-    c.args.number (flat_map string_bytes c.in_ok-lines.lines.items) c.in_ok-lines.ensures ledger
+    c.args.number (flat_map string_bytes c.in_ok-lines.lines.items) c.in_ok-lines.ensures.made ledger
     (g.S.Shelf.held c.args.shelf.now) (g.S.Shelf.held c.write_claim.new.shelf)
     (g.S.Shelf.held c.read_back-said.new.shelf) c.read_back-said.result
     c.in_ok-write_claim.ensures.written c.read_back-said.ensures.shelf.held

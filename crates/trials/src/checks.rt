@@ -1,0 +1,195 @@
+// Two replies to a claim file, read lane by lane by the checker of claims, which no command calls.
+ghost use Rattle.std.specs.Prelude.{◌≡◌, IfOk, false, true};
+ghost use Rattle.vk_claim.specs.Two.{HasClaim, IsClaimOver};
+
+use crate::bench::{Bench, Sizes, push_sizes};
+use crate::parts::{cut, name_of};
+use crate::text::Text;
+use std::alloc::Global;
+use vk_audit::same_challenge;
+use vk_cases::{Tried, Unreplayed, read_cases};
+use vk_claim::{ClaimChecker, ClaimFinding, ClaimVerdict};
+use vk_claims::{ClaimCircuits, claim_judged};
+use vk_effect::Said;
+use vk_io::{OutsideErr, PieceShelf, Shelf, Sink};
+use vk_judge::VErr;
+use vk_residue::NoMemory;
+use vk_words::{AttemptNames, ExtractNames};
+
+/// The most lanes that a claim file has.
+const MOST_LANES: u32 = 64;
+
+/// Tells of each case of `checked`, which is `WORDS|FILE CHALLENGE REPLY CHALLENGE REPLY`, what the
+/// checker gives and finds of these files, once the words have written theirs.
+pub fn try_checks<S: Shelf, W: Sink>(alloc: Global, shelf: &mut S, out: &mut W) -> Tried<()> {
+    let cases = read_cases(alloc, shelf, "checked")?;
+    let mut text = Text::new(alloc);
+    let mut bench = Bench::new(alloc);
+    let told = tell_checks(&mut bench, out, &mut text, cases.as_slice());
+    told
+}
+
+fn tell_checks<W: Sink>(
+    bench: &mut Bench,
+    out: &mut W,
+    text: &mut Text,
+    cases: &[u8],
+) -> Tried<()> {
+    let mut rest = cases;
+    for _ in 0..cases.len() {
+        if rest.is_empty() {
+            break;
+        }
+        let (case, behind) = cut(rest, b'\n');
+        push_case(bench, text, case)?;
+        rest = behind;
+    }
+    text.put(out)
+}
+
+/// What is told of a case.
+fn push_case(bench: &mut Bench, text: &mut Text, case: &[u8]) -> Tried<()> {
+    let (words, named) = cut(case, b'|');
+    let names = names_in(named)?;
+    bench.run(text, words)?;
+    text.word(named);
+    push_checked(bench, text, &names)
+}
+
+/// The names, with a space between two.
+fn names_in(named: &[u8]) -> Tried<ExtractNames<'_>> {
+    let (file, attempts) = cut(named, b' ');
+    let (first, behind) = attempt_in(attempts)?;
+    let (second, _behind) = attempt_in(behind)?;
+    let board = name_of(file)?;
+    Ok(ExtractNames {
+        board,
+        first,
+        second,
+    })
+}
+
+/// The names of a challenge and of the reply to it, and what stands behind them.
+fn attempt_in(named: &[u8]) -> Tried<(AttemptNames<'_>, &[u8])> {
+    let (challenge, behind) = cut(named, b' ');
+    let (reply, behind) = cut(behind, b' ');
+    let challenge = name_of(challenge)?;
+    let reply = name_of(reply)?;
+    Ok((AttemptNames { challenge, reply }, behind))
+}
+
+/// Tells what the checker gives and finds of these files: of the first lane what circuit it is
+/// held to, then how many lanes there are, and what is said of the finding.
+pub fn push_checked(bench: &mut Bench, text: &mut Text, names: &ExtractNames<'_>) -> Tried<()> {
+    let (given, finding) = checked(bench.alloc, &mut bench.shelf, text, names)?;
+    text.count(b"lanes", u64::from(given));
+    text.word(b"\n");
+    let said = said_of(bench.alloc, names, finding)?;
+    bench.say(&said)?;
+    text.word(bench.said());
+    Ok(())
+}
+
+/// How many lanes are given, and what is found then.
+fn checked(
+    alloc: Global,
+    shelf: &mut PieceShelf,
+    text: &mut Text,
+    names: &ExtractNames<'_>,
+) -> Tried<(u32, ClaimFinding)> {
+    match begun(alloc, shelf, names) {
+        Ok(checker) => {
+            let found = course(alloc, shelf, text, checker);
+            found
+        }
+        Err(_refused) => Err(Unreplayed::NoCase),
+    }
+}
+
+/// The checker before the first lane.
+fn begun(
+    alloc: Global,
+    shelf: &mut PieceShelf,
+    names: &ExtractNames<'_>,
+) -> Result<ClaimChecker, VErr> {
+    let ExtractNames {
+        board,
+        first,
+        second,
+    } = *names;
+    let checker = ClaimChecker::start(
+        alloc,
+        shelf,
+        &ClaimCircuits,
+        board,
+        first.challenge,
+        first.reply,
+        second.challenge,
+        second.reply,
+    );
+    checker
+}
+
+/// How many lanes it gives, and what is found then.
+fn course(
+    alloc: Global,
+    shelf: &mut PieceShelf,
+    text: &mut Text,
+    checker: ClaimChecker,
+) -> Tried<(u32, ClaimFinding)> {
+    let mut checker = checker;
+    for given in 0..=MOST_LANES {
+        let (next, some) = stepped(alloc, shelf, checker)?;
+        checker = next;
+        if !some {
+            return Ok((given, checker.finding()));
+        }
+        if given == 0 {
+            push_shape(text, &checker);
+        }
+    }
+    Err(Unreplayed::NoCase)
+}
+
+/// The checker behind the next lane, and whether there was one.
+fn stepped(
+    alloc: Global,
+    shelf: &mut PieceShelf,
+    checker: ClaimChecker,
+) -> Result<(ClaimChecker, bool), OutsideErr>
+    ensures some { IfOk result (λ next. next.1 ≡ true → HasClaim next.0) }
+    ensures none { IfOk result (λ next. next.1 ≡ false → IsClaimOver next.0) }
+{
+    let (checker, lane) = checker.next_lane(alloc, shelf)?;
+    Ok((checker, lane.is_some()))
+}
+
+/// How many wires, rows and inputs the circuit has.
+fn push_shape(text: &mut Text, checker: &ClaimChecker)
+    requires { HasClaim checker.now }
+{
+    let plan = checker.plan();
+    push_sizes(
+        text,
+        Sizes {
+            wires: plan.wires(),
+            rows: plan.rows(),
+        },
+    );
+    text.count(b"inputs", u64::from(checker.head().inputs));
+}
+
+/// What is said of the finding, as of one reply that is accepted where both are.
+fn said_of(
+    alloc: Global,
+    names: &ExtractNames<'_>,
+    finding: ClaimFinding,
+) -> Result<Said, NoMemory> {
+    let (second, verdict) = match finding {
+        ClaimFinding::Same => return Ok(same_challenge()),
+        ClaimFinding::Ready => (false, ClaimVerdict::Accepted),
+        ClaimFinding::Refused { second, verdict } => (second, verdict),
+    };
+    let said = claim_judged(alloc, names, second, verdict)?;
+    Ok(said)
+}
