@@ -52,7 +52,6 @@ fn push_case(bench: &mut Bench, text: &mut Text, case: &[u8]) -> Tried<()> {
     let (words, named) = cut(case, b'|');
     let names = names_in(named)?;
     bench.run(text, words)?;
-    text.word(named);
     push_checked(bench, text, &names)
 }
 
@@ -78,9 +77,12 @@ fn attempt_in(named: &[u8]) -> Tried<(AttemptNames<'_>, &[u8])> {
     Ok((AttemptNames { challenge, reply }, behind))
 }
 
-/// Tells what the checker gives and finds of these files: of the first lane what circuit it is
-/// held to, then how many lanes there are, and what is said of the finding.
+/// Tells what the checker gives and finds of these files: of the first lane how large the circuit is
+/// that it is held to, then how many lanes there are, and what is said of the finding.
 pub fn push_checked(bench: &mut Bench, text: &mut Text, names: &ExtractNames<'_>) -> Tried<()> {
+    text.word(names.board.as_bytes());
+    push_attempt(text, names.first);
+    push_attempt(text, names.second);
     let (given, finding) = checked(bench.alloc, &mut bench.shelf, text, names)?;
     text.count(b"lanes", u64::from(given));
     text.word(b"\n");
@@ -88,6 +90,14 @@ pub fn push_checked(bench: &mut Bench, text: &mut Text, names: &ExtractNames<'_>
     bench.say(&said)?;
     text.word(bench.said());
     Ok(())
+}
+
+/// The names of a challenge and of the reply to it.
+fn push_attempt(text: &mut Text, names: AttemptNames<'_>) {
+    text.word(b" ");
+    text.word(names.challenge.as_bytes());
+    text.word(b" ");
+    text.word(names.reply.as_bytes());
 }
 
 /// How many lanes are given, and what is found then.

@@ -1,7 +1,6 @@
 // The numbers that the claim of a sample publishes: the width of the sealed values, and what is
 // claimed of them.
-ghost use Rattle.std.specs.Prelude.{◌≡◌, ◌++◌, IfOk, IsErr};
-ghost use Rattle.vk_judge.specs.Wanting.{MemoryWasWanting};
+ghost use Rattle.std.specs.Prelude.{◌≡◌, ◌++◌, IfOk};
 ghost use Rattle.vk_report.specs.Samples.{IsCaseOf};
 ghost use Rattle.vk_claims.specs.Claims.{IsMatchingOf, IsSaleOf, MayPublish, sizes_of};
 ghost use Rattle.vk_words.specs.declared.claim.ClaimKind.TheVariants.{Uniform, Matching};
@@ -42,11 +41,9 @@ pub fn sizes_of(kind: ClaimKind) -> Sizes
 }
 
 /// Numbers that may be published of the case.
-#[tactic(auto, using(vk_judge::specs::Wanting::memory_was_wanting))]
 pub fn numbers_of(alloc: Global, kind: ClaimKind, case: &SampleCase) -> Result<Seq<u64>, NoMemory>
     requires { IsCaseOf (sizes_of kind) case.now }
-    ensures published { IfOk result (MayPublish kind case.now) }
-    ensures wanting { IsErr result → MemoryWasWanting }
+    ensures { IfOk result (MayPublish kind case.now) }
 {
     match kind {
         ClaimKind::Uniform => {

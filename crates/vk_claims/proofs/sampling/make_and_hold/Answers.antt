@@ -20,7 +20,7 @@ pub returns-in-Ok-clause-so : goal.returns-in-Ok-clause-so
 returns-in-Ok-clause-so g c = λ ledger.
     held_so c.args.kind c.args.number c.sizes_of.result c.sizes_of.ensures c.in_ok-case.case
     c.in_ok-case.ensures.case c.in_ok-published.published
-    c.as_slice-numbers.result.now c.in_ok-published.ensures.published c.as_slice-numbers.ensures
+    c.as_slice-numbers.result.now c.in_ok-published.ensures c.as_slice-numbers.ensures
     (proof_in c.in_ok-case.case c.in-Ok.made) c.hold-said.result
     (stores (g.S.Shelf.held c.args.shelf.now) ledger)
     (stores (g.S.Shelf.held c.hold-said.new.shelf) ledger) c.in-Ok.ensures.proof
@@ -30,7 +30,7 @@ pub returns-clause-so : goal.returns-clause-so
 returns-clause-so g c = λ ledger.
     dry_so c.args.kind c.args.number c.sizes_of.result c.sizes_of.ensures c.in_ok-case.case
     c.in_ok-case.ensures.case c.in_ok-published.published
-    c.as_slice-numbers.result.now c.in_ok-published.ensures.published c.as_slice-numbers.ensures
+    c.as_slice-numbers.result.now c.in_ok-published.ensures c.as_slice-numbers.ensures
     (dry_of c.in-Err.dry) c.in_ok-said-in-Err.said
     (g.S.Shelf.held c.args.shelf.now) ledger c.in-Err.ensures.proof c.in_ok-said-in-Err.ensures.said
     c.in_ok-said-in-Err.ensures.dry
