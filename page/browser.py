@@ -18,9 +18,10 @@ import subprocess
 import tempfile
 import time
 
-# Seconds that are waited for what a page should do, and for any answer of a browser
-PATIENCE = 120
-LONG_PATIENCE = 300
+# Seconds that are waited for what a page should do, and for any answer of a browser. Whatever is
+# waited for ends the wait, so only a trial that fails takes so long, on a busy machine too.
+PATIENCE = 600
+LONG_PATIENCE = 900
 
 
 class BrowserError(Exception):

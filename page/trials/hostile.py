@@ -5,11 +5,14 @@ import re
 import threading
 import time
 
+from browser import PATIENCE, wait_for
+
 from .desk import NotHere, script
 from .made import ID, LANES
 from .use import ACCEPTED, named
 
 HUNDRED_MB = 100_000_000
+QUIET = 5  # seconds in which nothing may be asked for
 
 
 class Listener:
@@ -52,9 +55,9 @@ def ask(browser, port):
         )
 
 
-def asked(listener, least):
-    """What was asked of a listener, when it has been quiet for a while."""
-    end = time.monotonic() + 5
+def asked(listener, least, patience=PATIENCE):
+    """What was asked of a listener, once it is so much."""
+    end = time.monotonic() + patience
     while time.monotonic() < end and len(set(listener.asked)) < least:
         time.sleep(0.1)
     time.sleep(0.5)
@@ -73,7 +76,7 @@ def connections_are_refused(desk):
     try:
         desk.open()
         ask(desk.browser, listener.port)
-        assert not asked(listener, 1), listener.asked
+        assert not asked(listener, 1, QUIET), listener.asked
         assert desk.run("return location.protocol") == "file:", "the page is still there"
         open_bare(desk)
         ask(desk.browser, listener.port)
@@ -110,7 +113,7 @@ def workers_ask_for_nothing(desk):
         desk.browser.ask("Target.setAutoAttach", autoAttach=True, **automatic)
         in_the_worker(desk.browser, listener.port)
         desk.browser.click("#seal-sure")
-        assert not asked(listener, 1), listener.asked
+        assert not asked(listener, 1, QUIET), listener.asked
         desk.run("document.querySelector('#keep-work .row button').click()")
         assert desk.shown("keep").title.startswith("Stopped")
         open_bare(desk)
@@ -119,7 +122,8 @@ def workers_ask_for_nothing(desk):
             "globalThis.worker = new Worker(URL.createObjectURL(script))"
         )
         in_the_worker(desk.browser, other.port)
-        assert len(asked(other, 1)) == 1 and len(other.asked) >= 4, other.asked
+        wait_for(lambda: len(other.asked) >= 4, "what a Worker without a policy asks for")
+        assert len(set(other.asked)) == 1, other.asked
     finally:
         desk.browser.ask("Target.setAutoAttach", autoAttach=False, **automatic)
         listener.close()

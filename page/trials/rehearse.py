@@ -2,8 +2,9 @@
 import os
 import shutil
 
+from browser import PATIENCE
+
 STEPS = ["Announce", "Bid", "Hand in", "Board", "Look", "Draw", "Reply", "Check"]
-PATIENCE = 120
 
 TOLD = (
     "const list = [...document.querySelectorAll('#rehearsal-told details')];"

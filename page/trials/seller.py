@@ -4,11 +4,12 @@ import os
 import shutil
 import tarfile
 
+from browser import PATIENCE
+
 LANES = 4
 BIDS = {7: 2000, 9: 3350, 300: 5000}
 NAMES = {7: "Ann", 9: "Ben & Co", 300: "Cleo"}
 STEPS = ["terms", "take", "prove", "draw", "pack"]
-PATIENCE = 120
 
 
 class Seller:
