@@ -138,6 +138,8 @@ class Desks:
             self.open()
             try:
                 trial(Desk(self.browser, self.address, self.made), *words)
+            except NotHere:
+                raise
             except BaseException:
                 self.leave()
                 raise
