@@ -1,7 +1,7 @@
 //! What a run of the page works on: files, a house and a text in memory, of which no call fails.
 //! Their counts of faults stay 0, so no run over them ends with the status of a failure.
 
-ghost use Rattle.std.specs.Prelude.{◌≡◌, [], OnOk, option_copied};
+ghost use Rattle.std.specs.Prelude.{◌≡◌, [], IfOk, OnOk, option_copied};
 ghost use Rattle.std.specs.FinMap as map;
 
 use std::alloc::Global;
@@ -125,6 +125,9 @@ impl Keeper for SureKeeper {
     ghost faults = { λ _. 0 };
 
     ghost turns = { λ k. k.turns };
+
+    /// The auction of that id by the ledger, or an error.
+    ghost get_gives = { λ old id answer _. IfOk answer (λ found. found ≡ map.get old.ledger id) };
 
     fn get(&mut self, id: &[u8; 16]) -> Result<Option<Auction>, OutsideErr> {
         let found = self.auctions.get(id)?;

@@ -8,4 +8,5 @@ pub mod Runs
 pub mod Once
 pub mod Answers
 pub mod Deciding
+pub mod Wanting
 pub mod Former

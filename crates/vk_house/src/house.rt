@@ -1,4 +1,4 @@
-ghost use Rattle.std.specs.Prelude.{◌≡◌, ◌<◌, ◌^◌, IfOk, IfSome, OnErr, Some};
+ghost use Rattle.std.specs.Prelude.{◌≡◌, ◌<◌, ◌^◌, IfOk, IfSome, IsErrOf, OnErr, Some};
 ghost use Rattle.vk_residue.specs.Limits.{IsSize};
 ghost use Rattle.vk_io.specs.Faults.{Causes};
 ghost use Rattle.vk_io.specs.Files.{Modelled};
@@ -10,6 +10,7 @@ ghost use Rattle.vk_house.specs.Answers.{MakesCall, MayReply, as_reply, work_of}
 ghost use Rattle.vk_house.specs.Commands.{Announce, AnnounceReserve, Submit, Prove, Answer, Show};
 ghost use Rattle.vk_house.specs.Deciding.{KeepsAnew, MayPut};
 ghost use Rattle.vk_house.specs.Replies.{Done, Position, Stands};
+ghost use Rattle.vk_house.specs.Wanting.{WantsMemory};
 
 use crate::errors::HouseErr;
 use crate::opening::{decide_announce, decide_submit};
@@ -53,6 +54,8 @@ impl<'a, K: Keeper + Drop> House<'a, K> {
         ensures turns { GetsOnce (K.turns self.old.keeper.now) (K.turns self.new.keeper.now) }
         ensures causes { Causes HouseErr.KeeperFailed result (K.faults self.old.keeper.now)
             (K.faults self.new.keeper.now) }
+        ensures memory { IsErrOf result HouseErr.NoMemory
+            → WantsMemory K.get_gives (Announce id.now width lanes) self.old.keeper.now }
         ensures keeper { self.new.keeper.ghost_name ≡ self.old.keeper.ghost_name }
     {
         let auction = decide_announce(alloc, self.keeper.get(id)?, id, width, lanes, None)?;
@@ -82,6 +85,9 @@ impl<'a, K: Keeper + Drop> House<'a, K> {
         ensures turns { GetsOnce (K.turns self.old.keeper.now) (K.turns self.new.keeper.now) }
         ensures causes { Causes HouseErr.KeeperFailed result (K.faults self.old.keeper.now)
             (K.faults self.new.keeper.now) }
+        ensures memory { IsErrOf result HouseErr.NoMemory
+            → WantsMemory K.get_gives (AnnounceReserve id.now width lanes reserve)
+            self.old.keeper.now }
         ensures keeper { self.new.keeper.ghost_name ≡ self.old.keeper.ghost_name }
     {
         let reserve = Some(reserve);
@@ -103,6 +109,8 @@ impl<'a, K: Keeper + Drop> House<'a, K> {
         ensures turns { GetsOnce (K.turns self.old.keeper.now) (K.turns self.new.keeper.now) }
         ensures causes { Causes HouseErr.KeeperFailed result (K.faults self.old.keeper.now)
             (K.faults self.new.keeper.now) }
+        ensures memory { IsErrOf result HouseErr.NoMemory
+            → WantsMemory K.get_gives (Submit id.now seal secret) self.old.keeper.now }
         ensures keeper { self.new.keeper.ghost_name ≡ self.old.keeper.ghost_name }
     {
         let joined = decide_submit(self.keeper.get(id)?, seal, secret)?;
@@ -124,6 +132,8 @@ impl<'a, K: Keeper + Drop> House<'a, K> {
         ensures turns { GetsOnce (K.turns self.old.keeper.now) (K.turns self.new.keeper.now) }
         ensures causes { Causes HouseErr.KeeperFailed result (K.faults self.old.keeper.now)
             (K.faults self.new.keeper.now) }
+        ensures memory { IsErrOf result HouseErr.NoMemory
+            → WantsMemory K.get_gives (Prove id.now seed.now) self.old.keeper.now }
         ensures keeper { self.new.keeper.ghost_name ≡ self.old.keeper.ghost_name }
     {
         let proving = decide_prove(alloc, self.keeper.get(id)?, seed)?;
@@ -150,6 +160,8 @@ impl<'a, K: Keeper + Drop> House<'a, K> {
         ensures turns { GetsOnce (K.turns self.old.keeper.now) (K.turns self.new.keeper.now) }
         ensures causes { Causes HouseErr.KeeperFailed result (K.faults self.old.keeper.now)
             (K.faults self.new.keeper.now) }
+        ensures memory { IsErrOf result HouseErr.NoMemory
+            → WantsMemory K.get_gives (Answer id.now challenge.now) self.old.keeper.now }
         ensures keeper { self.new.keeper.ghost_name ≡ self.old.keeper.ghost_name }
         ensures id { IfOk result (λ job. job.auction.id ≡ id.now) }
         ensures answered { IfOk result
@@ -170,6 +182,8 @@ impl<'a, K: Keeper + Drop> House<'a, K> {
         ensures turns { GetsOnce (K.turns self.old.keeper.now) (K.turns self.new.keeper.now) }
         ensures causes { Causes HouseErr.KeeperFailed result (K.faults self.old.keeper.now)
             (K.faults self.new.keeper.now) }
+        ensures memory { IsErrOf result HouseErr.NoMemory
+            → WantsMemory K.get_gives (Show id.now) self.old.keeper.now }
         ensures keeper { self.new.keeper.ghost_name ≡ self.old.keeper.ghost_name }
     {
         let standing = decide_show(self.keeper.get(id)?)?;

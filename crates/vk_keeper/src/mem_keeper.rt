@@ -125,6 +125,9 @@ impl Keeper for MemKeeper {
 
     ghost turns = { λ k. k.turns };
 
+    /// The auction of that id by the ledger, or an error.
+    ghost get_gives = { λ old id answer _. IfOk answer (λ found. found ≡ map.get old.ledger id) };
+
     fn get(&mut self, id: &[u8; 16]) -> Result<Option<Auction>, OutsideErr>
         ensures fails { IsErrOf result OutsideErr.Failed ↔ IsTrue (fails_next self.old.calls) }
         ensures answer { IfOk result (λ found. found ≡ map.get self.old.ledger id.now) }

@@ -96,6 +96,10 @@ impl<S: Alter> Keeper for SqlKeeper<S> {
 
     ghost turns = { λ keeper. keeper.turns };
 
+    /// What stands in the store, or an error, where the disk is clean.
+    ghost get_gives = { λ old id answer new. HasCleanDisk (state S.Store new.connection)
+        → IfOk answer (Finds S.Store id old.connection) };
+
     fn get(&mut self, id: &[u8; 16]) -> Result<Option<Auction>, OutsideErr>
         ensures id { IfOk result (λ found. IfSome found (λ auction. auction.id ≡ id.now)) }
         ensures right { IfOk result (λ found. IfSome found IsAuction) }

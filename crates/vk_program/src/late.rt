@@ -327,6 +327,11 @@ impl<H: HousePlace> Keeper for LateKeeper<H> {
 
     ghost turns = { λ keeper. keeper.turns };
 
+    /// The auction of that id by the ledger that is told of, where one is, or an error.
+    ghost get_gives = { λ old id answer _.
+        IfSome (told_by H.Kept.ledger (H.ledger old.house) old.kept)
+        (λ ledger. IfOk answer (λ found. found ≡ map.get ledger id)) };
+
     /// In a house that isn't made nothing is found, and nothing is made.
     fn get(&mut self, id: &[u8; 16]) -> Result<Option<Auction>, OutsideErr>
         ensures answer { IfSome (told_by H.Kept.ledger (H.ledger self.old.house) self.old.kept)
