@@ -101,12 +101,12 @@ module _ {s : StatementValue} {front file challenge reply : List ℕ} (is : IsSt
 
   pub accepted_ends : EndsRead accepted_read.rests.0 accepted_read.rests.1
   accepted_ends =
-      let board = file_end accepted_read accepts.file_is.0 in
+      let file = file_end accepted_read accepts.file_is.0 in
       let end = reply_end accepted_read refl accepts.reply_is.0 in
       record {
-        board_over = (tt, board.0);
+        board_over = (tt, file.0);
         reply_over = (tt, end.0);
-        board_read = board.1;
+        board_read = file.1;
         reply_read = end.1;
       }
 

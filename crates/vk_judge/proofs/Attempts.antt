@@ -31,12 +31,12 @@ attempt_begun whole files file challenge reply =
 -- ---- two replies
 
 pub files_begun : {X : Type 0} (whole : Rest → Rest → Rest → Rest → Rest → X) (files : Files)
-    (board first_challenge first_reply second_challenge second_reply : List ℕ)
-    → of_files whole files board first_challenge first_reply second_challenge second_reply
-    ≡ (of_files five_rests files board first_challenge first_reply second_challenge second_reply >>=
+    (file first_challenge first_reply second_challenge second_reply : List ℕ)
+    → of_files whole files file first_challenge first_reply second_challenge second_reply
+    ≡ (of_files five_rests files file first_challenge first_reply second_challenge second_reply >>=
     λ rests. Ok (whole rests.0 rests.1 rests.2 rests.3 rests.4))
-files_begun whole files board first_challenge first_reply second_challenge second_reply =
-    by_five (begun_file part.Board (get files board))
+files_begun whole files file first_challenge first_reply second_challenge second_reply =
+    by_five (begun_file part.Board (get files file))
     (begun_file part.Challenge (get files first_challenge))
     (begun_file part.Reply (get files first_reply))
     (begun_file part.SecondChallenge (get files second_challenge))
@@ -55,12 +55,12 @@ files_begun whole files board first_challenge first_reply second_challenge secon
 
 -- the first of them is begun where all are
 pub file_begun : (files : Files)
-    (board first_challenge first_reply second_challenge second_reply : List ℕ)
+    (file first_challenge first_reply second_challenge second_reply : List ℕ)
     (rests : Rest × Rest × Rest × Rest × Rest)
-    → of_files five_rests files board first_challenge first_reply second_challenge second_reply
-    ≡ Ok rests → begun_file part.Board (get files board) ≡ Ok rests.0
-file_begun files board first_challenge first_reply second_challenge second_reply rests ok =
-    bind_first (begun_file part.Board (get files board))
+    → of_files five_rests files file first_challenge first_reply second_challenge second_reply
+    ≡ Ok rests → begun_file part.Board (get files file) ≡ Ok rests.0
+file_begun files file first_challenge first_reply second_challenge second_reply rests ok =
+    bind_first (begun_file part.Board (get files file))
     (λ a. begun_file part.Challenge (get files first_challenge) >>= λ b. begun_file part.Reply
     (get files first_reply) >>= λ c. begun_file part.SecondChallenge
     (get files second_challenge) >>= λ d. begun_file part.SecondReply (get files second_reply)

@@ -47,33 +47,33 @@ lines_then s number bit reply lines =
     in_part part.Reply (reply_lane_at number s.plan.kinds bit reply)
     >>= shown_then s number bit lines
 
-module _ (s : StatementValue) (number : ℕ) (bit : Bool) (board reply : Rest) where
-  no_lines_there : (line : ℕ) → lane_at number (later_wires s.plan) (length s.plan.rows) board
+module _ (s : StatementValue) (number : ℕ) (bit : Bool) (file reply : Rest) where
+  no_lines_there : (line : ℕ) → lane_at number (later_wires s.plan) (length s.plan.rows) file
       ≡ Err line
-      → lane_judged s number bit board reply ≡ Err (Malformed part.Board line)
+      → lane_judged s number bit file reply ≡ Err (Malformed part.Board line)
   unfolding lane_judged
   no_lines_there line stop = ap (λ r. in_part part.Board r >>= lines_then s number bit reply) stop
 
   no_shown_there : (lines : LaneLines) (next : Rest) (line : ℕ)
-      → lane_at number (later_wires s.plan) (length s.plan.rows) board ≡ Ok (lines, next)
+      → lane_at number (later_wires s.plan) (length s.plan.rows) file ≡ Ok (lines, next)
       → reply_lane_at number s.plan.kinds bit reply ≡ Err line
-      → lane_judged s number bit board reply ≡ Err (Malformed part.Reply line)
+      → lane_judged s number bit file reply ≡ Err (Malformed part.Reply line)
   unfolding lane_judged
   no_shown_there lines next line found stop =
-      read_found part.Board (lane_at number (later_wires s.plan) (length s.plan.rows) board)
+      read_found part.Board (lane_at number (later_wires s.plan) (length s.plan.rows) file)
       (lines_then s number bit reply) (lines, next) found
       ∙ ap (λ r. in_part part.Reply r >>= shown_then s number bit (lines, next)) stop
 
   fault_there : (lines : LaneLines) (shown : List Shown) (next after : Rest) (lane : LaneFault)
       (fault : Fault)
-      → lane_at number (later_wires s.plan) (length s.plan.rows) board ≡ Ok (lines, next)
+      → lane_at number (later_wires s.plan) (length s.plan.rows) file ≡ Ok (lines, next)
       → reply_lane_at number s.plan.kinds bit reply ≡ Ok (shown, after)
       → checked_lane s.plan (case_of s number lines) bit shown ≡ Err lane
       → lane_fault number (Err lane) ≡ Err fault
-      → lane_judged s number bit board reply ≡ Err fault
+      → lane_judged s number bit file reply ≡ Err fault
   unfolding lane_judged
   fault_there lines shown next after lane fault found shown_found stop is =
-      read_found part.Board (lane_at number (later_wires s.plan) (length s.plan.rows) board)
+      read_found part.Board (lane_at number (later_wires s.plan) (length s.plan.rows) file)
       (lines_then s number bit reply) (lines, next) found
       ∙ (read_found part.Reply (reply_lane_at number s.plan.kinds bit reply)
       (shown_then s number bit (lines, next))

@@ -42,25 +42,25 @@ counted_found lanes challenge replies bits same =
 
 -- ---- the ends
 
-pub record EndsRead (board reply : Rest) : Type 0 where
+pub record EndsRead (file reply : Rest) : Type 0 where
   pub board_over : Unit {0} × Rest
   pub reply_over : Unit {0} × Rest
-  pub board_read : end_at board ≡ Ok board_over
+  pub board_read : end_at file ≡ Ok board_over
   pub reply_read : end_at reply ≡ Ok reply_over
 
-ends_shown : (board reply : Rest) (done : Unit {0}) → ends_judged board reply ≡ Ok done
-    → EndsRead board reply
+ends_shown : (file reply : Rest) (done : Unit {0}) → ends_judged file reply ≡ Ok done
+    → EndsRead file reply
 unfolding ends_judged
-ends_shown board reply done ok =
-    let over = read_ok part.Board (end_at board)
+ends_shown file reply done ok =
+    let over = read_ok part.Board (end_at file)
     (λ over. in_part part.Reply (end_at reply) >>= λ end. Ok tt) done ok in
     let end = read_ok part.Reply (end_at reply) (λ end. Ok tt) done over.2 in
     record { board_over = over.0; reply_over = end.0; board_read = over.1; reply_read = end.1 }
 
-pub ends_found : (board reply : Rest) → EndsRead board reply → ends_judged board reply ≡ Ok tt
+pub ends_found : (file reply : Rest) → EndsRead file reply → ends_judged file reply ≡ Ok tt
 unfolding ends_judged
-ends_found board reply read =
-    read_found part.Board (end_at board)
+ends_found file reply read =
+    read_found part.Board (end_at file)
     (λ over. in_part part.Reply (end_at reply) >>= λ end. Ok tt) read.board_over
     read.board_read
     ∙ read_found part.Reply (end_at reply) (λ end. Ok tt) read.reply_over read.reply_read
@@ -72,15 +72,15 @@ ends_then rests = ends_judged rests.0 rests.1
 
 abbrev pub lanes_then : StatementValue → Rest → Challenge × Rest → ℕ × Rest
     → Result (Unit {0}) Fault
-lanes_then s board bits replies = lanes_judged s 1 bits.0.bits board replies.1 >>= ends_then
+lanes_then s file bits replies = lanes_judged s 1 bits.0.bits file replies.1 >>= ends_then
 
 abbrev pub reply_then : StatementValue → Rest → Challenge × Rest → ℕ × Rest
     → Result (Unit {0}) Fault
-reply_then s board bits replies =
-    counted s.lanes bits.0 replies.0 >>= λ same. lanes_then s board bits replies
+reply_then s file bits replies =
+    counted s.lanes bits.0 replies.0 >>= λ same. lanes_then s file bits replies
 
 abbrev pub bits_then : StatementValue → Rest → Rest → Challenge × Rest → Result (Unit {0}) Fault
-bits_then s board reply bits = in_part part.Reply (reply_head_at reply) >>= reply_then s board bits
+bits_then s file reply bits = in_part part.Reply (reply_head_at reply) >>= reply_then s file bits
 
 -- the challenge and the head of the reply were read, and say the statement's number of lanes
 pub record Begun (s : StatementValue) (challenge reply : Rest) : Type 0 where
@@ -105,39 +105,39 @@ begun_with s challenge reply bits count done challenge_read count_read same = re
   one_bit_each = (counted_shown s.lanes bits.0 count.0 done same).0;
 }
 
-pub begun_judged : (s : StatementValue) (board challenge reply : Rest)
+pub begun_judged : (s : StatementValue) (file challenge reply : Rest)
     (begun : Begun s challenge reply)
-    → behind_judged s board challenge reply
-    ≡ (lanes_judged s 1 begun.bits.bits board begun.count_rest >>= ends_then)
+    → behind_judged s file challenge reply
+    ≡ (lanes_judged s 1 begun.bits.bits file begun.count_rest >>= ends_then)
 unfolding behind_judged
-begun_judged s board challenge reply begun =
+begun_judged s file challenge reply begun =
     let bits : Challenge × Rest = (begun.bits, begun.challenge_rest) in
     let replies : ℕ × Rest = (s.lanes, begun.count_rest) in
-    read_found part.Challenge (challenge_at challenge) (bits_then s board reply) bits
+    read_found part.Challenge (challenge_at challenge) (bits_then s file reply) bits
     begun.challenge_read
-    ∙ (read_found part.Reply (reply_head_at reply) (reply_then s board bits) replies
+    ∙ (read_found part.Reply (reply_head_at reply) (reply_then s file bits) replies
     begun.count_read
-    ∙ bind_found (counted s.lanes begun.bits s.lanes) (λ same. lanes_then s board bits replies) tt
+    ∙ bind_found (counted s.lanes begun.bits s.lanes) (λ same. lanes_then s file bits replies) tt
     (counted_found s.lanes begun.bits s.lanes begun.one_bit_each refl))
 
 -- ---- all
 
-pub record FilesRead (s : StatementValue) (board challenge reply : Rest) : Type 0 where
+pub record FilesRead (s : StatementValue) (file challenge reply : Rest) : Type 0 where
   pub begun : Begun s challenge reply
   pub rests : Rest × Rest
-  pub lanes_pass : lanes_judged s 1 begun.bits.bits board begun.count_rest ≡ Ok rests
+  pub lanes_pass : lanes_judged s 1 begun.bits.bits file begun.count_rest ≡ Ok rests
   pub ends : EndsRead rests.0 rests.1
 
-pub judged_shown : (s : StatementValue) (board challenge reply : Rest) (done : Unit {0})
-    → behind_judged s board challenge reply ≡ Ok done → FilesRead s board challenge reply
+pub judged_shown : (s : StatementValue) (file challenge reply : Rest) (done : Unit {0})
+    → behind_judged s file challenge reply ≡ Ok done → FilesRead s file challenge reply
 unfolding behind_judged
-judged_shown s board challenge reply done ok =
-    let bits = read_ok part.Challenge (challenge_at challenge) (bits_then s board reply) done ok in
-    let replies = read_ok part.Reply (reply_head_at reply) (reply_then s board bits.0) done bits.2
+judged_shown s file challenge reply done ok =
+    let bits = read_ok part.Challenge (challenge_at challenge) (bits_then s file reply) done ok in
+    let replies = read_ok part.Reply (reply_head_at reply) (reply_then s file bits.0) done bits.2
     in
     let same = bind_ok (counted s.lanes bits.0.0 replies.0.0)
-    (λ same. lanes_then s board bits.0 replies.0) done replies.2 in
-    let rests = bind_ok (lanes_judged s 1 bits.0.0.bits board replies.0.1) ends_then done same.2 in
+    (λ same. lanes_then s file bits.0 replies.0) done replies.2 in
+    let rests = bind_ok (lanes_judged s 1 bits.0.0.bits file replies.0.1) ends_then done same.2 in
     record {
       begun = begun_with s challenge reply bits.0 replies.0 same.0 bits.1 replies.1 same.1;
       rests = rests.0;

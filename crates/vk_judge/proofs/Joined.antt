@@ -19,11 +19,11 @@ abbrev pair : {X Y : Type 0} → X → Y → Result (X × Y) Fault
 pair x y = Ok (x, y)
 
 -- a lane's tests, bracketed otherwise
-last_part : (done : Result (Unit {0}) Fault) (shown : List Shown) (board reply : Rest)
-    → ◌≡◌ {A = Result (Rest × Rest) Fault} (done >>= λ _. pair board reply)
-    ((done >>= λ _. pair shown reply) >>= λ s. pair board s.1)
-last_part (Ok done) shown board reply = refl
-last_part (Err fault) shown board reply = refl
+last_part : (done : Result (Unit {0}) Fault) (shown : List Shown) (file reply : Rest)
+    → ◌≡◌ {A = Result (Rest × Rest) Fault} (done >>= λ _. pair file reply)
+    ((done >>= λ _. pair shown reply) >>= λ s. pair file s.1)
+last_part (Ok done) shown file reply = refl
+last_part (Err fault) shown file reply = refl
 
 three_parts : (lines : Result (LaneLines × Rest) Fault) (shown : Result (List Shown × Rest) Fault)
     (case : LaneLines → LaneCase) (check : LaneCase → List Shown → Result (Unit {0}) Fault)
@@ -36,14 +36,14 @@ three_parts (Ok x) (Err fault) case check = refl
 three_parts (Ok x) (Ok y) case check = last_part (check (case x.0) y.0) y.0 x.1 y.1
 
 -- a lane is read, and then what is shown of it is read and checked
-pub lane_parts : (s : StatementValue) (number : ℕ) (bit : Bool) (board reply : Rest)
-    → lane_judged s number bit board reply
-    ≡ (case_at s number board >>= λ c. reply_judged s.plan c.0 number bit reply >>= λ shown.
+pub lane_parts : (s : StatementValue) (number : ℕ) (bit : Bool) (file reply : Rest)
+    → lane_judged s number bit file reply
+    ≡ (case_at s number file >>= λ c. reply_judged s.plan c.0 number bit reply >>= λ shown.
     Ok (c.1, shown.1))
 unfolding lane_judged case_at reply_judged
-lane_parts s number bit board reply =
+lane_parts s number bit file reply =
     three_parts (in_part part.Board
-    (lane_at number (later_wires s.plan) (length s.plan.rows) board))
+    (lane_at number (later_wires s.plan) (length s.plan.rows) file))
     (in_part part.Reply (reply_lane_at number s.plan.kinds bit reply))
     (case_of s number) (λ case shown. lane_fault number (checked_lane s.plan case bit shown))
 
@@ -75,9 +75,9 @@ attempt_parts lanes challenge reply rest =
         counted_parts (counted lanes bits.0 replies.0) (bits.0.bits, replies.1) (λ a. rest a.0 a.1)
 
 -- all tests behind a front
-pub behind_parts : (s : StatementValue) (board challenge reply : Rest)
-    → behind_judged s board challenge reply ≡ behind_in_parts s board challenge reply
+pub behind_parts : (s : StatementValue) (file challenge reply : Rest)
+    → behind_judged s file challenge reply ≡ behind_in_parts s file challenge reply
 unfolding behind_judged behind_in_parts rest_judged
-behind_parts s board challenge reply =
+behind_parts s file challenge reply =
     attempt_parts s.lanes challenge reply
-    (λ bits rest. lanes_judged s 1 bits board rest >>= λ rests. ends_judged rests.0 rests.1)
+    (λ bits rest. lanes_judged s 1 bits file rest >>= λ rests. ends_judged rests.0 rests.1)

@@ -19,7 +19,7 @@ use Rattle.vk_judge.proofs.Steps.{bind_ok, bind_found, value_same}
 use Rattle.vk_judge.proofs.Many.{many_step, many_first, many_last, many_keeps}
 use Rattle.vk_judge.proofs.Lanes.{LaneRead, lane_shown, lane_found}
 
--- the lane after these on the board, and in the reply
+-- the lane after these on the file, and in the reply
 abbrev pub next_lines : StatementValue → List LaneLines → Rest → Result (LaneLines × Rest) ℕ
 next_lines s before rest = lane_at (length before + 1) (later_wires s.plan) (length s.plan.rows)
     rest
@@ -39,10 +39,10 @@ IsChecked s bit_of lines shown index =
 -- so many lanes after these were read, and are checked
 pub record LanesRead (s : StatementValue) (bit_of : ℕ → Bool) (before : List LaneLines)
     (earlier : List (List Shown))
-    (count : ℕ) (board reply : Rest) (rests : Rest × Rest) : Type 0 where
+    (count : ℕ) (file reply : Rest) (rests : Rest × Rest) : Type 0 where
   pub lines : List LaneLines
   pub shown : List (List Shown)
-  pub board_read : many_onto before count (next_lines s) board ≡ Ok (lines, rests.0)
+  pub board_read : many_onto before count (next_lines s) file ≡ Ok (lines, rests.0)
   pub reply_read : many_onto earlier count (next_shown s bit_of) reply ≡ Ok (shown, rests.1)
   pub checked : (index : ℕ) → length before ≤ index → index < length before + count
       → IsChecked s bit_of lines shown index
@@ -90,7 +90,7 @@ same_check s bit_of lines shown index one bit other at same =
     ∙ (ap (λ b. checked_lane s.plan (case_of s number one) b (slice_index_or shown index [])) same
     ∙ ap (λ show. checked_lane s.plan (case_of s number one) bit show) at.show)
 
--- the next lane in the reply, by the number of that on the board
+-- the next lane in the reply, by the number of that on the file
 same_shown : (s : StatementValue) (bit_of : ℕ → Bool) (earlier : List (List Shown)) (before : ℕ)
     (bit : Bool)
     (reply : Rest) → length earlier ≡ before → bit_of (before + 1) ≡ bit
@@ -101,13 +101,13 @@ same_shown s bit_of earlier before bit reply same is =
 
 module _ (s : StatementValue) (bit_of : ℕ → Bool) where
   stand_at : (before : List LaneLines) (earlier : List (List Shown)) (count : ℕ)
-      (board reply : Rest) (one : LaneLines)
+      (file reply : Rest) (one : LaneLines)
       (other : List Shown) (rests : Rest × Rest) → length earlier ≡ length before
-      → (later : LanesRead s bit_of (before ++ one ∷ []) (earlier ++ other ∷ []) count board reply
+      → (later : LanesRead s bit_of (before ++ one ∷ []) (earlier ++ other ∷ []) count file reply
       rests)
       → StandsAt later.lines later.shown (length before) one other
-  stand_at before earlier count board reply one other rests same later = record {
-    line = many_keeps (next_lines s) before one count board later.lines rests.0 no_lines
+  stand_at before earlier count file reply one other rests same later = record {
+    line = many_keeps (next_lines s) before one count file later.lines rests.0 no_lines
         later.board_read;
     show = ap (λ i. slice_index_or later.shown i []) (sym same)
         ∙ many_keeps (next_shown s bit_of) earlier other count reply later.shown rests.1 []
@@ -116,14 +116,14 @@ module _ (s : StatementValue) (bit_of : ℕ → Bool) where
 
   -- a lane, and those after it
   lanes_joined : (before : List LaneLines) (earlier : List (List Shown)) (bit : Bool) (count : ℕ)
-      (board reply : Rest)
+      (file reply : Rest)
       (next rests : Rest × Rest)
       → length earlier ≡ length before → bit_of (length before + 1) ≡ bit
-      → (read : LaneRead s (length before + 1) bit board reply next)
+      → (read : LaneRead s (length before + 1) bit file reply next)
       → LanesRead s bit_of (before ++ read.lines ∷ []) (earlier ++ read.shown ∷ []) count next.0
       next.1 rests
-      → LanesRead s bit_of before earlier (suc count) board reply rests
-  lanes_joined before earlier bit count board reply next rests same is read later =
+      → LanesRead s bit_of before earlier (suc count) file reply rests
+  lanes_joined before earlier bit count file reply next rests same is read later =
       let C : ℕ → Type 0 = λ index. IsChecked s bit_of later.lines later.shown index in
       let at = stand_at before earlier count next.0 next.1 read.lines read.shown rests same later in
       let first : C (length before) = (
@@ -134,7 +134,7 @@ module _ (s : StatementValue) (bit_of : ℕ → Bool) where
       record {
         lines = later.lines;
         shown = later.shown;
-        board_read = many_step (next_lines s) before count board read.lines next.0 read.board_read
+        board_read = many_step (next_lines s) before count file read.lines next.0 read.board_read
             ∙ later.board_read;
         reply_read = many_step (next_shown s bit_of) earlier count reply read.shown next.1
             (same_shown s bit_of earlier (length before) bit reply same is ∙ read.reply_read)
@@ -148,14 +148,14 @@ module _ (s : StatementValue) (bit_of : ℕ → Bool) where
 
   -- what was read and checked, where every lane passes
   pub lanes_shown : (before : List LaneLines) (earlier : List (List Shown)) (bits : List Bool)
-      (board reply : Rest)
+      (file reply : Rest)
       (rests : Rest × Rest)
       → length earlier ≡ length before → AreBits bit_of (length before) bits
-      → lanes_judged s (length before + 1) bits board reply ≡ Ok rests
-      → LanesRead s bit_of before earlier (length bits) board reply rests
+      → lanes_judged s (length before + 1) bits file reply ≡ Ok rests
+      → LanesRead s bit_of before earlier (length bits) file reply rests
   unfolding lanes_judged many_onto
-  lanes_shown before earlier [] board reply rests same are ok =
-      let over = value_same (board, reply) rests ok in
+  lanes_shown before earlier [] file reply rests same are ok =
+      let over = value_same (file, reply) rests ok in
       record {
         lines = before;
         shown = earlier;
@@ -163,14 +163,14 @@ module _ (s : StatementValue) (bit_of : ℕ → Bool) where
         reply_read = ap (λ r. Ok (earlier, r.1)) over;
         checked = λ index low high. absurd (omega (arith, low, high));
       }
-  lanes_shown before earlier (bit ∷ bits) board reply rests same are ok =
-      let lane = bind_ok (lane_judged s (length before + 1) bit board reply)
+  lanes_shown before earlier (bit ∷ bits) file reply rests same are ok =
+      let lane = bind_ok (lane_judged s (length before + 1) bit file reply)
       (λ next. lanes_judged s (length before + 1 + 1) bits next.0 next.1) rests ok in
-      let read = lane_shown s (length before + 1) bit board reply lane.0 lane.1 in
+      let read = lane_shown s (length before + 1) bit file reply lane.0 lane.1 in
       let after : List LaneLines = before ++ read.lines ∷ [] in
       let number : length after + 1 ≡ length before + 1 + 1 = omega (arith, more before read.lines)
       in
-      lanes_joined before earlier bit (length bits) board reply lane.0 rests same
+      lanes_joined before earlier bit (length bits) file reply lane.0 rests same
       (first_bit bit_of (length before) bit bits are) read (
       lanes_shown after (earlier ++ read.shown ∷ []) bits lane.0.0 lane.0.1 rests
       (omega (arith, more before read.lines, more earlier read.shown, same))
@@ -180,15 +180,15 @@ module _ (s : StatementValue) (bit_of : ℕ → Bool) where
 
   -- the first lane of those that were read
   lane_first : (before : List LaneLines) (earlier : List (List Shown)) (bit : Bool) (count : ℕ)
-      (board reply : Rest)
+      (file reply : Rest)
       (rests : Rest × Rest)
       → length earlier ≡ length before → bit_of (length before + 1) ≡ bit
-      → LanesRead s bit_of before earlier (suc count) board reply rests
-      → (next : Rest × Rest) × (read : LaneRead s (length before + 1) bit board reply next)
+      → LanesRead s bit_of before earlier (suc count) file reply rests
+      → (next : Rest × Rest) × (read : LaneRead s (length before + 1) bit file reply next)
       × LanesRead s bit_of (before ++ read.lines ∷ []) (earlier ++ read.shown ∷ []) count next.0
       next.1 rests
-  lane_first before earlier bit count board reply rests same is all =
-      let line = many_first (next_lines s) before count board all.lines rests.0 all.board_read in
+  lane_first before earlier bit count file reply rests same is all =
+      let line = many_first (next_lines s) before count file all.lines rests.0 all.board_read in
       let show = many_first (next_shown s bit_of) earlier count reply all.shown rests.1
       all.reply_read in
       let later : LanesRead s bit_of (before ++ line.0 ∷ []) (earlier ++ show.0 ∷ []) count line.1
@@ -217,26 +217,26 @@ module _ (s : StatementValue) (bit_of : ℕ → Bool) where
 
   -- every lane passes, where all were read and are checked
   pub lanes_found : (before : List LaneLines) (earlier : List (List Shown)) (bits : List Bool)
-      (board reply : Rest)
+      (file reply : Rest)
       (rests : Rest × Rest)
       → length earlier ≡ length before → AreBits bit_of (length before) bits
-      → LanesRead s bit_of before earlier (length bits) board reply rests
-      → lanes_judged s (length before + 1) bits board reply ≡ Ok rests
+      → LanesRead s bit_of before earlier (length bits) file reply rests
+      → lanes_judged s (length before + 1) bits file reply ≡ Ok rests
   unfolding lanes_judged
-  lanes_found before earlier [] board reply rests same are all =
-      let over = many_last (next_lines s) before board all.lines rests.0 all.board_read in
+  lanes_found before earlier [] file reply rests same are all =
+      let over = many_last (next_lines s) before file all.lines rests.0 all.board_read in
       let end = many_last (next_shown s bit_of) earlier reply all.shown rests.1 all.reply_read in
       ap (λ b. Ok (b, reply)) over ∙ ap (λ r. Ok (rests.0, r)) end
-  lanes_found before earlier (bit ∷ bits) board reply rests same are all =
-      let lane = lane_first before earlier bit (length bits) board reply rests same
+  lanes_found before earlier (bit ∷ bits) file reply rests same are all =
+      let lane = lane_first before earlier bit (length bits) file reply rests same
       (first_bit bit_of (length before) bit bits are) all in
       let next : Rest × Rest = lane.0 in
       let after : List LaneLines = before ++ lane.1.lines ∷ [] in
       let number : length before + 1 + 1 ≡ length after + 1 =
       omega (arith, more before lane.1.lines) in
-      bind_found (lane_judged s (length before + 1) bit board reply)
+      bind_found (lane_judged s (length before + 1) bit file reply)
       (λ next. lanes_judged s (length before + 1 + 1) bits next.0 next.1) next
-      (lane_found s (length before + 1) bit board reply next lane.1)
+      (lane_found s (length before + 1) bit file reply next lane.1)
       ∙ (ap (λ n. lanes_judged s n bits next.0 next.1) number
       ∙ lanes_found after (earlier ++ lane.1.shown ∷ []) bits next.0 next.1 rests
       (omega (arith, more before lane.1.lines, more earlier lane.1.shown, same))
@@ -261,20 +261,20 @@ taken_bits bits count within =
 
 -- the lanes after so many that are passed
 pub lanes_split : (s : StatementValue) (number : ℕ) (bits : List Bool) (count : ℕ)
-    (board reply : Rest)
+    (file reply : Rest)
     (rests : Rest × Rest)
-    → lanes_judged s number (take count bits) board reply ≡ Ok rests
-    → lanes_judged s number bits board reply
+    → lanes_judged s number (take count bits) file reply ≡ Ok rests
+    → lanes_judged s number bits file reply
     ≡ lanes_judged s (number + count) (drop count bits) rests.0 rests.1
 unfolding lanes_judged
-lanes_split s number bits zero board reply rests passed =
+lanes_split s number bits zero file reply rests passed =
     let here : number ≡ number + zero = omega arith in
-    ap (λ n. lanes_judged s n bits board reply) here
+    ap (λ n. lanes_judged s n bits file reply) here
     ∙ ap (λ r. lanes_judged s (number + zero) bits r.0 r.1)
-    (value_same (board, reply) rests passed)
-lanes_split s number [] (suc count) board reply rests passed = passed
-lanes_split s number (bit ∷ bits) (suc count) board reply rests passed =
-    let first = bind_ok (lane_judged s number bit board reply)
+    (value_same (file, reply) rests passed)
+lanes_split s number [] (suc count) file reply rests passed = passed
+lanes_split s number (bit ∷ bits) (suc count) file reply rests passed =
+    let first = bind_ok (lane_judged s number bit file reply)
     (λ r. lanes_judged s (number + 1) (take count bits) r.0 r.1) rests passed in
     let there : number + 1 + count ≡ number + suc count = omega arith in
     ap (λ r. r >>= λ r. lanes_judged s (number + 1) bits r.0 r.1) first.1

@@ -19,23 +19,23 @@ use Rattle.vk_judge.proofs.Steps.{Unread, bind_err, read_err}
 use Rattle.vk_judge.proofs.LaneLists.{LanesRead, lanes_shown, taken_bits}
 
 -- the lane at that index is not passed, and those before it are
-record StopsAt (s : StatementValue) (number : ℕ) (bits : List Bool) (board reply : Rest)
+record StopsAt (s : StatementValue) (number : ℕ) (bits : List Bool) (file reply : Rest)
     (fault : Fault) : Type 0 where
   index : ℕ
   within : index < length bits
   rests : Rest × Rest
-  before : lanes_judged s number (take index bits) board reply ≡ Ok rests
+  before : lanes_judged s number (take index bits) file reply ≡ Ok rests
   stop : lane_judged s (number + index) (slice_index_or bits index false) rests.0 rests.1
       ≡ Err fault
 
-stops_later : (s : StatementValue) (number : ℕ) (bit : Bool) (bits : List Bool) (board reply : Rest)
+stops_later : (s : StatementValue) (number : ℕ) (bit : Bool) (bits : List Bool) (file reply : Rest)
     (fault : Fault)
     (rests : Rest × Rest)
-    → lane_judged s number bit board reply ≡ Ok rests
+    → lane_judged s number bit file reply ≡ Ok rests
     → StopsAt s (number + 1) bits rests.0 rests.1 fault
-    → StopsAt s number (bit ∷ bits) board reply fault
+    → StopsAt s number (bit ∷ bits) file reply fault
 unfolding lanes_judged
-stops_later s number bit bits board reply fault rests first later =
+stops_later s number bit bits file reply fault rests first later =
     let there : number + suc later.index ≡ number + 1 + later.index = omega arith in
     record {
       index = suc later.index;
@@ -47,52 +47,52 @@ stops_later s number bit bits board reply fault rests first later =
           later.rests.1) there ∙ later.stop;
     }
 
-stops_at : (s : StatementValue) (number : ℕ) (bits : List Bool) (board reply : Rest) (fault : Fault)
-    → lanes_judged s number bits board reply ≡ Err fault
-    → StopsAt s number bits board reply fault
+stops_at : (s : StatementValue) (number : ℕ) (bits : List Bool) (file reply : Rest) (fault : Fault)
+    → lanes_judged s number bits file reply ≡ Err fault
+    → StopsAt s number bits file reply fault
 unfolding lanes_judged
-stops_at s number [] board reply fault stop = cc
-stops_at s number (bit ∷ bits) board reply fault stop =
-    elim (bind_err (lane_judged s number bit board reply)
+stops_at s number [] file reply fault stop = cc
+stops_at s number (bit ∷ bits) file reply fault stop =
+    elim (bind_err (lane_judged s number bit file reply)
     (λ r. lanes_judged s (number + 1) bits r.0 r.1) fault stop) [
       | inl here ↦
           let same : number + zero ≡ number = omega arith in
           record {
             index = zero;
             within = omega arith;
-            rests = (board, reply);
+            rests = (file, reply);
             before = refl;
-            stop = ap (λ n. lane_judged s n bit board reply) same ∙ here;
+            stop = ap (λ n. lane_judged s n bit file reply) same ∙ here;
           }
-      | inr next ↦ stops_later s number bit bits board reply fault next.0 next.1
+      | inr next ↦ stops_later s number bit bits file reply fault next.0 next.1
           (stops_at s (number + 1) bits next.0.0 next.0.1 fault next.2)
     ]
 
 -- judging the lanes of a challenge stops in this one, after so many that were read and are checked
-pub record LanesStop (s : StatementValue) (bits : Challenge) (board reply : Rest)
+pub record LanesStop (s : StatementValue) (bits : Challenge) (file reply : Rest)
     (fault : Fault) : Type 0 where
   pub count : ℕ
   pub within : count < length bits.bits
   pub rests : Rest × Rest
-  pub read : LanesRead s (bit_of bits) [] [] count board reply rests
+  pub read : LanesRead s (bit_of bits) [] [] count file reply rests
   pub stop : lane_judged s (count + 1) (bit_of bits (count + 1)) rests.0 rests.1 ≡ Err fault
 
-pub lanes_stop : (s : StatementValue) (bits : Challenge) (board reply : Rest) (fault : Fault)
-    → lanes_judged s 1 bits.bits board reply ≡ Err fault
-    → LanesStop s bits board reply fault
-lanes_stop s bits board reply fault stop =
-    let at = stops_at s 1 bits.bits board reply fault stop in
+pub lanes_stop : (s : StatementValue) (bits : Challenge) (file reply : Rest) (fault : Fault)
+    → lanes_judged s 1 bits.bits file reply ≡ Err fault
+    → LanesStop s bits file reply fault
+lanes_stop s bits file reply fault stop =
+    let at = stops_at s 1 bits.bits file reply fault stop in
     let count : length (take at.index bits.bits) ≡ at.index =
     length-take-le at.index bits.bits (omega (arith, at.within)) in
     let are = taken_bits bits at.index (omega (arith, at.within)) in
     let number : at.index + 1 ≡ 1 + at.index = omega arith in
     let here : at.index + 1 - 1 ≡ at.index = omega arith in
-    let L : ℕ → Type 0 = λ n. LanesRead s (bit_of bits) [] [] n board reply at.rests in
+    let L : ℕ → Type 0 = λ n. LanesRead s (bit_of bits) [] [] n file reply at.rests in
     record {
       count = at.index;
       within = at.within;
       rests = at.rests;
-      read = subst L count (lanes_shown s (bit_of bits) [] [] (take at.index bits.bits) board reply
+      read = subst L count (lanes_shown s (bit_of bits) [] [] (take at.index bits.bits) file reply
           at.rests refl are at.before);
       stop = ap (λ n. lane_judged s n (bit_of bits (at.index + 1)) at.rests.0 at.rests.1) number
           ∙ ap (λ i. lane_judged s (1 + at.index) (slice_index_or bits.bits i false) at.rests.0
@@ -101,27 +101,27 @@ lanes_stop s bits board reply fault stop =
 
 -- ---- the lane that isn't passed
 
--- its lines on the board or in the reply are not of its form, or what is shown of it has a fault
-pub data LaneStop (s : StatementValue) (number : ℕ) (bit : Bool) (board reply : Rest)
+-- its lines on the file or in the reply are not of its form, or what is shown of it has a fault
+pub data LaneStop (s : StatementValue) (number : ℕ) (bit : Bool) (file reply : Rest)
     (fault : Fault) : Type 0 where
-  NoLines : Unread part.Board (lane_at number (later_wires s.plan) (length s.plan.rows) board) fault
-      → LaneStop s number bit board reply fault
+  NoLines : Unread part.Board (lane_at number (later_wires s.plan) (length s.plan.rows) file) fault
+      → LaneStop s number bit file reply fault
   NoShown : (lines : LaneLines) (next : Rest)
-      → lane_at number (later_wires s.plan) (length s.plan.rows) board ≡ Ok (lines, next)
+      → lane_at number (later_wires s.plan) (length s.plan.rows) file ≡ Ok (lines, next)
       → Unread part.Reply (reply_lane_at number s.plan.kinds bit reply) fault
-      → LaneStop s number bit board reply fault
+      → LaneStop s number bit file reply fault
   NotPassed : (lines : LaneLines) (shown : List Shown) (next after : Rest)
-      → lane_at number (later_wires s.plan) (length s.plan.rows) board ≡ Ok (lines, next)
+      → lane_at number (later_wires s.plan) (length s.plan.rows) file ≡ Ok (lines, next)
       → reply_lane_at number s.plan.kinds bit reply ≡ Ok (shown, after)
       → lane_fault number (checked_lane s.plan (case_of s number lines) bit shown) ≡ Err fault
-      → LaneStop s number bit board reply fault
+      → LaneStop s number bit file reply fault
 
-pub lane_stop : (s : StatementValue) (number : ℕ) (bit : Bool) (board reply : Rest) (fault : Fault)
-    → lane_judged s number bit board reply ≡ Err fault
-    → LaneStop s number bit board reply fault
+pub lane_stop : (s : StatementValue) (number : ℕ) (bit : Bool) (file reply : Rest) (fault : Fault)
+    → lane_judged s number bit file reply ≡ Err fault
+    → LaneStop s number bit file reply fault
 unfolding lane_judged
-lane_stop s number bit board reply fault stop =
-    elim (read_err part.Board (lane_at number (later_wires s.plan) (length s.plan.rows) board)
+lane_stop s number bit file reply fault stop =
+    elim (read_err part.Board (lane_at number (later_wires s.plan) (length s.plan.rows) file)
     (λ lines. in_part part.Reply (reply_lane_at number s.plan.kinds bit reply) >>= λ shown.
     lane_fault number (checked_lane s.plan (case_of s number lines.0) bit shown.0) >>= λ done.
     Ok (lines.1, shown.1)) fault stop) [

@@ -64,23 +64,23 @@ verdict_shown number (Err NoMemory) done memory ok = absurd (memory refl)
 
 -- ---- a lane
 
-pub record LaneRead (s : StatementValue) (number : ℕ) (bit : Bool) (board reply : Rest)
+pub record LaneRead (s : StatementValue) (number : ℕ) (bit : Bool) (file reply : Rest)
     (rests : Rest × Rest) : Type 0 where
   pub lines : LaneLines
   pub shown : List Shown
   pub halves : List ℕ
-  pub board_read : lane_at number (later_wires s.plan) (length s.plan.rows) board
+  pub board_read : lane_at number (later_wires s.plan) (length s.plan.rows) file
       ≡ Ok (lines, rests.0)
   pub reply_read : reply_lane_at number s.plan.kinds bit reply ≡ Ok (shown, rests.1)
   pub checked : checked_lane s.plan (case_of s number lines) bit shown ≡ Ok halves
 
-pub lane_shown : (s : StatementValue) (number : ℕ) (bit : Bool) (board reply : Rest)
+pub lane_shown : (s : StatementValue) (number : ℕ) (bit : Bool) (file reply : Rest)
     (rests : Rest × Rest)
-    → lane_judged s number bit board reply ≡ Ok rests
-    → LaneRead s number bit board reply rests
+    → lane_judged s number bit file reply ≡ Ok rests
+    → LaneRead s number bit file reply rests
 unfolding lane_judged
-lane_shown s number bit board reply rests ok =
-    let lines = read_ok part.Board (lane_at number (later_wires s.plan) (length s.plan.rows) board)
+lane_shown s number bit file reply rests ok =
+    let lines = read_ok part.Board (lane_at number (later_wires s.plan) (length s.plan.rows) file)
     (λ lines. in_part part.Reply (reply_lane_at number s.plan.kinds bit reply) >>= λ shown.
     lane_fault number (checked_lane s.plan (case_of s number lines.0) bit shown.0) >>= λ done.
     Ok (lines.1, shown.1)) rests ok in
@@ -103,13 +103,13 @@ lane_shown s number bit board reply rests ok =
       checked = halves.1;
     }
 
-pub lane_found : (s : StatementValue) (number : ℕ) (bit : Bool) (board reply : Rest)
+pub lane_found : (s : StatementValue) (number : ℕ) (bit : Bool) (file reply : Rest)
     (rests : Rest × Rest)
-    → LaneRead s number bit board reply rests
-    → lane_judged s number bit board reply ≡ Ok rests
+    → LaneRead s number bit file reply rests
+    → lane_judged s number bit file reply ≡ Ok rests
 unfolding lane_judged
-lane_found s number bit board reply rests read =
-    read_found part.Board (lane_at number (later_wires s.plan) (length s.plan.rows) board)
+lane_found s number bit file reply rests read =
+    read_found part.Board (lane_at number (later_wires s.plan) (length s.plan.rows) file)
     (λ lines. in_part part.Reply (reply_lane_at number s.plan.kinds bit reply) >>= λ shown.
     lane_fault number (checked_lane s.plan (case_of s number lines.0) bit shown.0) >>= λ done.
     Ok (lines.1, shown.1)) (read.lines, rests.0) read.board_read

@@ -18,3 +18,6 @@ pub mod TwoFound
 pub mod TwoLaw
 pub mod TwoValues
 pub mod Held
+pub mod Checked
+pub mod FileForms
+pub mod HeldFiles

@@ -26,11 +26,11 @@ told_is : (accepted : Finding Fault) (fault : Fault) (first : Result (Unit {0}) 
 told_is accepted fault (Ok done) = refl
 told_is accepted fault (Err other) = refl
 
-ends_by : (accepted : Finding Fault) (board : Result (Unit {0} × Rest) Fault)
+ends_by : (accepted : Finding Fault) (file : Result (Unit {0} × Rest) Fault)
     (first second : Result (Unit {0} × Rest) Fault)
-    → found_by accepted (board >>= λ _. first >>= λ _. Ok tt) second
-    ≡ two_result accepted (board >>= λ _. first >>= λ _. Ok tt)
-    (board >>= λ _. second >>= λ _. Ok tt)
+    → found_by accepted (file >>= λ _. first >>= λ _. Ok tt) second
+    ≡ two_result accepted (file >>= λ _. first >>= λ _. Ok tt)
+    (file >>= λ _. second >>= λ _. Ok tt)
 ends_by accepted (Err fault) first second = refl
 ends_by accepted (Ok over) (Err fault) second = refl
 ends_by accepted (Ok over) (Ok done) (Err fault) = refl
@@ -38,10 +38,10 @@ ends_by accepted (Ok over) (Ok done) (Ok last) = refl
 
 ends_are : (accepted : Finding Fault) (rests : Rests)
     → ends_found accepted rests
-    ≡ two_result accepted (ends_judged rests.board rests.first)
-    (ends_judged rests.board rests.second)
+    ≡ two_result accepted (ends_judged rests.file rests.first)
+    (ends_judged rests.file rests.second)
 unfolding ends_found ends_judged
-ends_are accepted rests = ends_by accepted (in_part part.Board (end_at rests.board))
+ends_are accepted rests = ends_by accepted (in_part part.Board (end_at rests.file))
     (in_part part.Reply (end_at rests.first)) (in_part part.Reply (end_at rests.second))
 
 -- ---- lanes
@@ -49,13 +49,13 @@ ends_are accepted rests = ends_by accepted (in_part part.Board (end_at rests.boa
 abbrev pair : {X Y : Type 0} → X → Y → Result (X × Y) Fault
 pair x y = Ok (x, y)
 
-rest_after : (shown : Result (List Shown × Rest) Fault) (board : Rest)
+rest_after : (shown : Result (List Shown × Rest) Fault) (file : Rest)
     (lanes : Rest → Rest → Result (Rest × Rest) Fault)
     (ends : Rest → Rest → Result (Unit {0}) Fault)
-    → (((shown >>= λ s. pair board s.1) >>= λ r. lanes r.0 r.1) >>= λ r. ends r.0 r.1)
-    ≡ (shown >>= λ s. lanes board s.1 >>= λ r. ends r.0 r.1)
-rest_after (Err fault) board lanes ends = refl
-rest_after (Ok shown) board lanes ends = refl
+    → (((shown >>= λ s. pair file s.1) >>= λ r. lanes r.0 r.1) >>= λ r. ends r.0 r.1)
+    ≡ (shown >>= λ s. lanes file s.1 >>= λ r. ends r.0 r.1)
+rest_after (Err fault) file lanes ends = refl
+rest_after (Ok shown) file lanes ends = refl
 
 rest_by : (case : Result (LaneCase × Rest) Fault)
     (shown : LaneCase → Result (List Shown × Rest) Fault)
@@ -68,15 +68,15 @@ rest_by (Err fault) shown lanes ends = refl
 rest_by (Ok case) shown lanes ends = rest_after (shown case.0) case.1 lanes ends
 
 -- the rest is judged lane by lane
-rest_step : (s : StatementValue) (number : ℕ) (bit : Bool) (bits : List Bool) (board reply : Rest)
-    → rest_judged s number (bit ∷ bits) board reply
-    ≡ (case_at s number board >>= λ c. reply_judged s.plan c.0 number bit reply >>= λ t.
+rest_step : (s : StatementValue) (number : ℕ) (bit : Bool) (bits : List Bool) (file reply : Rest)
+    → rest_judged s number (bit ∷ bits) file reply
+    ≡ (case_at s number file >>= λ c. reply_judged s.plan c.0 number bit reply >>= λ t.
     rest_judged s (number + 1) bits c.1 t.1)
 unfolding rest_judged lanes_judged
-rest_step s number bit bits board reply =
+rest_step s number bit bits file reply =
     ap (λ l. (l >>= λ r. lanes_judged s (number + 1) bits r.0 r.1) >>= λ r. ends_judged r.0 r.1)
-    (lane_parts s number bit board reply)
-    ∙ rest_by (case_at s number board) (λ case. reply_judged s.plan case number bit reply)
+    (lane_parts s number bit file reply)
+    ∙ rest_by (case_at s number file) (λ case. reply_judged s.plan case number bit reply)
     (lanes_judged s (number + 1) bits) ends_judged
 
 -- one lane of both replies
@@ -93,21 +93,21 @@ finding_after : (accepted : Finding Fault) (second : Result (List Shown × Rest)
     (shown : List Shown × Rest) (first_bit second_bit : Bool)
     (rest other : Rest → Rest → Result (Unit {0}) Fault) (next : Rests → Ahead Fault)
     → ((rests : Rests) → (next rests).finding
-    ≡ two_result accepted (rest rests.board rests.first) (other rests.board rests.second))
+    ≡ two_result accepted (rest rests.file rests.first) (other rests.file rests.second))
     → (ahead_after (both (Ok case) (λ _. Ok shown) (λ _. second) first_bit second_bit rest)
     next).finding
     ≡ two_result accepted (rest case.1 shown.1) (second >>= λ s. other case.1 s.1)
 finding_after accepted (Err fault) case shown first_bit second_bit rest other next is =
     told_is accepted fault (rest case.1 shown.1)
 finding_after accepted (Ok last) case shown first_bit second_bit rest other next is =
-    is (record { board = case.1; first = shown.1; second = last.1 })
+    is (record { file = case.1; first = shown.1; second = last.1 })
 
 finding_first : (accepted : Finding Fault) (first second : Result (List Shown × Rest) Fault)
     (case : LaneCase × Rest)
     (first_bit second_bit : Bool)
     (rest other : Rest → Rest → Result (Unit {0}) Fault) (next : Rests → Ahead Fault)
     → ((rests : Rests) → (next rests).finding
-    ≡ two_result accepted (rest rests.board rests.first) (other rests.board rests.second))
+    ≡ two_result accepted (rest rests.file rests.first) (other rests.file rests.second))
     → (ahead_after (both (Ok case) (λ _. first) (λ _. second) first_bit second_bit rest)
     next).finding
     ≡ two_result accepted (first >>= λ s. rest case.1 s.1) (second >>= λ s. other case.1 s.1)
@@ -119,7 +119,7 @@ finding_lane : (accepted : Finding Fault) (case : Result (LaneCase × Rest) Faul
     (first second : LaneCase → Result (List Shown × Rest) Fault) (first_bit second_bit : Bool)
     (rest other : Rest → Rest → Result (Unit {0}) Fault) (next : Rests → Ahead Fault)
     → ((rests : Rests) → (next rests).finding
-    ≡ two_result accepted (rest rests.board rests.first) (other rests.board rests.second))
+    ≡ two_result accepted (rest rests.file rests.first) (other rests.file rests.second))
     → (ahead_after (both case first second first_bit second_bit rest) next).finding
     ≡ two_result accepted (case >>= λ c. first c.0 >>= λ s. rest c.1 s.1)
     (case >>= λ c. second c.0 >>= λ s. other c.1 s.1)
@@ -133,25 +133,25 @@ finding_from : (s : StatementValue) (accepted : Finding Fault) (number : ℕ)
     (bits others : List Bool) (rests : Rests)
     → length bits ≡ length others
     → (ahead_from s accepted number bits others rests).finding
-    ≡ two_result accepted (rest_judged s number bits rests.board rests.first)
-    (rest_judged s number others rests.board rests.second)
+    ≡ two_result accepted (rest_judged s number bits rests.file rests.first)
+    (rest_judged s number others rests.file rests.second)
 unfolding ahead_from two_lane_at rest_judged lanes_judged
 finding_from s accepted number [] [] rests same = ends_are accepted rests
 finding_from s accepted number [] (other ∷ others) rests same = cc
 finding_from s accepted number (bit ∷ bits) [] rests same = cc
 finding_from s accepted number (bit ∷ bits) (other ∷ others) rests same =
-    finding_lane accepted (case_at s number rests.board)
+    finding_lane accepted (case_at s number rests.file)
     (λ case. reply_judged s.plan case number bit rests.first)
     (λ case. reply_judged s.plan case number other rests.second) bit other
     (rest_judged s (number + 1) bits) (rest_judged s (number + 1) others)
     (ahead_from s accepted (number + 1) bits others)
     (λ next. finding_from s accepted (number + 1) bits others next (omega (arith, same)))
     ∙ ap (λ r. two_result accepted r
-    (case_at s number rests.board >>= λ c. reply_judged s.plan c.0 number other rests.second >>=
+    (case_at s number rests.file >>= λ c. reply_judged s.plan c.0 number other rests.second >>=
     λ t. rest_judged s (number + 1) others c.1 t.1))
-    (sym (rest_step s number bit bits rests.board rests.first))
-    ∙ ap (λ r. two_result accepted (rest_judged s number (bit ∷ bits) rests.board rests.first) r)
-    (sym (rest_step s number other others rests.board rests.second))
+    (sym (rest_step s number bit bits rests.file rests.first))
+    ∙ ap (λ r. two_result accepted (rest_judged s number (bit ∷ bits) rests.file rests.first) r)
+    (sym (rest_step s number other others rests.file rests.second))
 
 -- ---- before the first lane
 
@@ -189,58 +189,58 @@ attempt_is lanes challenge reply = attempt_by lanes (challenge_at challenge) (re
 
 abbrev base_of : StatementValue → Rest → List Bool × Rest → List Bool × Rest
     → Result (Base × Rests) (Finding Fault)
-base_of s board first second =
+base_of s file first second =
     Ok (
       record { statement = s; first_bits = first.0; second_bits = second.0 },
-      record { board = board; first = first.1; second = second.1 },
+      record { file = file; first = first.1; second = second.1 },
     )
 
 -- the second attempt and what is ahead of it
-finding_second : (s : StatementValue) (board : Rest) (first : List Bool × Rest)
+finding_second : (s : StatementValue) (file : Rest) (first : List Bool × Rest)
     (second : Result (List Bool × Rest) Fault) (bits others : List Bool)
     → IsAttempt s.lanes bits first → IfOk second (IsAttempt s.lanes others)
-    → (ahead_by (of_second (rest_judged s 1 first.0 board first.1) second >>= λ t.
-    base_of s board first t)).finding
-    ≡ two_result (accepted_of bits others) (rest_judged s 1 first.0 board first.1)
-    (second >>= λ t. rest_judged s 1 t.0 board t.1)
-finding_second s board first (Err fault) bits others is other_is =
-    told_is (accepted_of bits others) fault (rest_judged s 1 first.0 board first.1)
-finding_second s board first (Ok second) bits others is other_is =
-    let rests : Rests = record { board = board; first = first.1; second = second.1 } in
+    → (ahead_by (of_second (rest_judged s 1 first.0 file first.1) second >>= λ t.
+    base_of s file first t)).finding
+    ≡ two_result (accepted_of bits others) (rest_judged s 1 first.0 file first.1)
+    (second >>= λ t. rest_judged s 1 t.0 file t.1)
+finding_second s file first (Err fault) bits others is other_is =
+    told_is (accepted_of bits others) fault (rest_judged s 1 first.0 file first.1)
+finding_second s file first (Ok second) bits others is other_is =
+    let rests : Rests = record { file = file; first = first.1; second = second.1 } in
     finding_from s (accepted_of first.0 second.0) 1 first.0 second.0 rests
     (is.count ∙ sym other_is.count)
-    ∙ ap (λ (accepted : Finding Fault). two_result accepted (rest_judged s 1 first.0 board first.1)
-    (rest_judged s 1 second.0 board second.1))
+    ∙ ap (λ (accepted : Finding Fault). two_result accepted (rest_judged s 1 first.0 file first.1)
+    (rest_judged s 1 second.0 file second.1))
     (ap (λ b. accepted_of b second.0) is.same ∙ ap (accepted_of bits) other_is.same)
 
-finding_attempts : (s : StatementValue) (board : Rest)
+finding_attempts : (s : StatementValue) (file : Rest)
     (first second : Result (List Bool × Rest) Fault)
     (bits others : List Bool)
     → IfOk first (IsAttempt s.lanes bits) → IfOk second (IsAttempt s.lanes others)
-    → (ahead_by (of_first first >>= λ f. of_second (rest_judged s 1 f.0 board f.1) second >>= λ t.
-    base_of s board f t)).finding
-    ≡ two_result (accepted_of bits others) (first >>= λ f. rest_judged s 1 f.0 board f.1)
-    (second >>= λ t. rest_judged s 1 t.0 board t.1)
-finding_attempts s board (Err fault) second bits others is other_is = refl
-finding_attempts s board (Ok first) second bits others is other_is =
-    finding_second s board first second bits others is other_is
+    → (ahead_by (of_first first >>= λ f. of_second (rest_judged s 1 f.0 file f.1) second >>= λ t.
+    base_of s file f t)).finding
+    ≡ two_result (accepted_of bits others) (first >>= λ f. rest_judged s 1 f.0 file f.1)
+    (second >>= λ t. rest_judged s 1 t.0 file t.1)
+finding_attempts s file (Err fault) second bits others is other_is = refl
+finding_attempts s file (Ok first) second bits others is other_is =
+    finding_second s file first second bits others is other_is
 
 finding_parts : FindsBy behind_in_parts
 unfolding base_behind behind_in_parts
-finding_parts s board first_challenge first_reply second_challenge second_reply =
-    finding_attempts s board (attempt_at s.lanes first_challenge first_reply)
+finding_parts s file first_challenge first_reply second_challenge second_reply =
+    finding_attempts s file (attempt_at s.lanes first_challenge first_reply)
     (attempt_at s.lanes second_challenge second_reply)
     (bits_read (challenge_at first_challenge)) (bits_read (challenge_at second_challenge))
     (attempt_is s.lanes first_challenge first_reply)
     (attempt_is s.lanes second_challenge second_reply)
 
 pub finds_by_judging : FindsByJudging
-finds_by_judging s board first_challenge first_reply second_challenge second_reply =
+finds_by_judging s file first_challenge first_reply second_challenge second_reply =
     let accepted : Finding Fault =
     accepted_of (bits_read (challenge_at first_challenge))
     (bits_read (challenge_at second_challenge)) in
-    finding_parts s board first_challenge first_reply second_challenge second_reply
-    ∙ ap (λ r. two_result accepted r (behind_in_parts s board second_challenge second_reply))
-    (sym (behind_parts s board first_challenge first_reply))
-    ∙ ap (two_result accepted (behind_judged s board first_challenge first_reply))
-    (sym (behind_parts s board second_challenge second_reply))
+    finding_parts s file first_challenge first_reply second_challenge second_reply
+    ∙ ap (λ r. two_result accepted r (behind_in_parts s file second_challenge second_reply))
+    (sym (behind_parts s file first_challenge first_reply))
+    ∙ ap (two_result accepted (behind_judged s file first_challenge first_reply))
+    (sym (behind_parts s file second_challenge second_reply))

@@ -35,12 +35,12 @@ use Rattle.vk_judge.proofs.TwoLaw.{finds_by_judging}
 
 -- ---- one lane
 
-case_found : (s : StatementValue) (number : ℕ) (board : Rest) (lines : LaneLines) (next : Rest)
-    → lane_at number (later_wires s.plan) (length s.plan.rows) board ≡ Ok (lines, next)
-    → case_at s number board ≡ Ok (case_of s number lines, next)
+case_found : (s : StatementValue) (number : ℕ) (file : Rest) (lines : LaneLines) (next : Rest)
+    → lane_at number (later_wires s.plan) (length s.plan.rows) file ≡ Ok (lines, next)
+    → case_at s number file ≡ Ok (case_of s number lines, next)
 unfolding case_at
-case_found s number board lines next read =
-    read_found part.Board (lane_at number (later_wires s.plan) (length s.plan.rows) board)
+case_found s number file lines next read =
+    read_found part.Board (lane_at number (later_wires s.plan) (length s.plan.rows) file)
     (λ lines. Ok (case_of s number lines.0, lines.1)) (lines, next) read
 
 reply_found : (plan : PlanValue) (case : LaneCase) (number : ℕ) (bit : Bool) (reply : Rest)
@@ -59,7 +59,7 @@ reply_found plan case number bit reply shown next halves read checked =
 lane_given : (s : StatementValue) (number : ℕ) (first_bit second_bit : Bool) (later : List Bool)
     (rests : Rests)
     (case : LaneCase × Rest) (first second : List Shown × Rest)
-    → case_at s number rests.board ≡ Ok case
+    → case_at s number rests.file ≡ Ok case
     → reply_judged s.plan case.0 number first_bit rests.first ≡ Ok first
     → reply_judged s.plan case.0 number second_bit rests.second ≡ Ok second
     → two_lane_at s number first_bit second_bit later rests
@@ -89,12 +89,12 @@ module _ (s : StatementValue) (first_of second_of : ℕ → Bool) (lines : List 
     first : (index : ℕ) → index < total → IsChecked s first_of lines shown index
     second : (index : ℕ) → index < total → IsChecked s second_of lines others index
 
-  -- so many lanes after these are read, of the board and of both replies
+  -- so many lanes after these are read, of the file and of both replies
   record AreRead (before : List LaneLines) (earlier last : List (List Shown)) (count : ℕ)
       (rests ends : Rests) : Type 0 where
     first_same : length earlier ≡ length before
     second_same : length last ≡ length before
-    board : many_onto before count (next_lines s) rests.board ≡ Ok (lines, ends.board)
+    file : many_onto before count (next_lines s) rests.file ≡ Ok (lines, ends.file)
     first : many_onto earlier count (next_shown s first_of) rests.first ≡ Ok (shown, ends.first)
     second : many_onto last count (next_shown s second_of) rests.second ≡ Ok (others, ends.second)
 
@@ -132,13 +132,13 @@ module _ (s : StatementValue) (first_of second_of : ℕ → Bool) (lines : List 
   next_read total before earlier last count later rests ends checked within are =
       let index : ℕ = length before in
       let number : ℕ = length before + 1 in
-      let line = many_first (next_lines s) before count rests.board lines ends.board are.board in
+      let line = many_first (next_lines s) before count rests.file lines ends.file are.file in
       let show = many_first (next_shown s first_of) earlier count rests.first shown ends.first
       are.first in
       let other = many_first (next_shown s second_of) last count rests.second others ends.second
       are.second in
       let line_at : slice_index_or lines index no_lines ≡ line.0 =
-      many_keeps (next_lines s) before line.0 count line.1 lines ends.board no_lines line.3 in
+      many_keeps (next_lines s) before line.0 count line.1 lines ends.file no_lines line.3 in
       let show_at : slice_index_or shown index [] ≡ show.0 =
       ap (λ i. slice_index_or shown i []) (sym are.first_same)
       ∙ many_keeps (next_shown s first_of) earlier show.0 count show.1 shown ends.first []
@@ -154,10 +154,10 @@ module _ (s : StatementValue) (first_of second_of : ℕ → Bool) (lines : List 
         line = line.0;
         show = show.0;
         other = other.0;
-        next = record { board = line.1; first = show.1; second = other.1 };
+        next = record { file = line.1; first = show.1; second = other.1 };
         given = lane_given s number (first_of number) (second_of number) later rests (case, line.1)
             (slice_index_or shown index [], show.1) (slice_index_or others index [], other.1)
-            (case_found s number rests.board (slice_index_or lines index no_lines) line.1
+            (case_found s number rests.file (slice_index_or lines index no_lines) line.1
             (line.2 ∙ ap (λ l. Ok (l, line.1)) (sym line_at)))
             (reply_found s.plan case number (first_of number) rests.first
             (slice_index_or shown index []) show.1 first.0
@@ -171,7 +171,7 @@ module _ (s : StatementValue) (first_of second_of : ℕ → Bool) (lines : List 
         after = record {
           first_same = more earlier before show.0 line.0 are.first_same;
           second_same = more last before other.0 line.0 are.second_same;
-          board = line.3;
+          file = line.3;
           first = show.3;
           second = other.3;
         };
@@ -200,14 +200,14 @@ module _ (s : StatementValue) (first_of second_of : ℕ → Bool) (lines : List 
     found = later.found;
   }
 
-  rests_same : (rests ends : Rests) → rests.board ≡ ends.board → rests.first ≡ ends.first
+  rests_same : (rests ends : Rests) → rests.file ≡ ends.file → rests.first ≡ ends.first
       → rests.second ≡ ends.second
       → rests ≡ ends
-  rests_same rests ends board first second =
-      let R : Rest → Rest → Rest → Rests = λ b f s. record { board = b; first = f; second = s } in
-      ap (λ b. R b rests.first rests.second) board
-      ∙ (ap (λ f. R ends.board f rests.second) first
-      ∙ ap (λ s. R ends.board ends.first s) second)
+  rests_same rests ends file first second =
+      let R : Rest → Rest → Rest → Rests = λ b f s. record { file = b; first = f; second = s } in
+      ap (λ b. R b rests.first rests.second) file
+      ∙ (ap (λ f. R ends.file f rests.second) first
+      ∙ ap (λ s. R ends.file ends.first s) second)
 
   bit_is : (bit_of : ℕ → Bool) (before : ℕ) (bit : Bool) (bits : List Bool)
       → AreBits bit_of before (bit ∷ bits)
@@ -234,14 +234,14 @@ module _ (s : StatementValue) (first_of second_of : ℕ → Bool) (lines : List 
   unfolding ahead_from
   given_from finding total before earlier last [] [] rests ends checked count same first second over
       are =
-      let board = many_last (next_lines s) before rests.board lines ends.board are.board in
+      let file = many_last (next_lines s) before rests.file lines ends.file are.file in
       let one = many_last (next_shown s first_of) earlier rests.first shown ends.first are.first in
       let other = many_last (next_shown s second_of) last rests.second others ends.second are.second
       in
       record {
         one_each = refl;
         each = λ index lane is. cc;
-        found = ap (ends_found finding) (rests_same rests ends board one other) ∙ over;
+        found = ap (ends_found finding) (rests_same rests ends file one other) ∙ over;
       }
   given_from finding total before earlier last [] (other ∷ second_bits) rests ends checked count
       same first second over are = cc
@@ -300,12 +300,12 @@ attempt_found lanes challenge reply bits challenge_rest reply_rest challenge_rea
     (counted_found lanes bits lanes one_each refl))
 
 ends_are_over : (finding : Finding Fault) (ends : Rests) (over : Unit {0} × Rest)
-    → EndsRead ends.board ends.first
+    → EndsRead ends.file ends.first
     → end_at ends.second ≡ Ok over → ends_found finding ends ≡ finding
 unfolding ends_found
 ends_are_over finding ends over first second =
     ap (λ j. found_by finding j (in_part part.Reply (end_at ends.second)))
-    (files.ends_found ends.board ends.first first)
+    (files.ends_found ends.file ends.first first)
     ∙ ap (λ r. found_by finding (Ok tt) (in_part part.Reply r)) second
 
 -- ---- behind a front
@@ -329,14 +329,14 @@ module _ (s : StatementValue) (is : IsStatement s) (front file first_challenge f
 
   abbrev begun : Rests
   begun = record {
-    board = rest;
+    file = rest;
     first = first_read.begun.count_rest;
     second = second_read.begun.count_rest;
   }
 
   abbrev ended : Rests
   ended = record {
-    board = first_read.rests.0;
+    file = first_read.rests.0;
     first = first_read.rests.1;
     second = second_read.rests.1;
   }
@@ -356,7 +356,7 @@ module _ (s : StatementValue) (is : IsStatement s) (front file first_challenge f
       ∙ ap (λ r. of_second (rest_judged s 1 first.challenge.bits rest begun.first) r >>=
       λ (t : List Bool × Rest). Ok (
         record { statement = s; first_bits = first.challenge.bits; second_bits = t.0 },
-        record { board = rest; first = begun.first; second = t.1 },
+        record { file = rest; first = begun.first; second = t.1 },
       )) other
 
   abbrev found : Finding Fault
@@ -388,7 +388,7 @@ module _ (s : StatementValue) (is : IsStatement s) (front file first_challenge f
       (record {
         first_same = refl;
         second_same = refl;
-        board = ap (λ n. many_onto [] n (next_lines s) rest) first.one_bit_each
+        file = ap (λ n. many_onto [] n (next_lines s) rest) first.one_bit_each
             ∙ first_read.read.board_read;
         first = ap (λ n. many_onto [] n (next_shown s (bit_of first.challenge)) begun.first)
             first.one_bit_each ∙ first_read.read.reply_read;

@@ -41,7 +41,7 @@ of_attempt whole files file challenge reply = do
 -- what they come to for the readers of them
 abbrev pub of_begun : {X : Type 0} → (Rest → Rest → Rest → X) → Attempt → Files → X
 of_begun whole attempt files =
-    whole (rest_of attempt.pair.board files) (rest_of attempt.challenge files)
+    whole (rest_of attempt.pair.file files) (rest_of attempt.challenge files)
     (rest_of attempt.pair.reply files)
 
 abbrev pub three_rests : Rest → Rest → Rest → Rest × Rest × Rest
@@ -53,18 +53,18 @@ three_rests file challenge reply = (file, challenge, reply)
 -- that is missing or too long
 abbrev pub of_files : {X : Type 0} → (Rest → Rest → Rest → Rest → Rest → X) → Files → List ℕ
     → List ℕ → List ℕ → List ℕ → List ℕ → Result X VErr
-of_files whole files board first_challenge first_reply second_challenge second_reply = do
-  board ← begun_file part.Board (get files board)
+of_files whole files file first_challenge first_reply second_challenge second_reply = do
+  file ← begun_file part.Board (get files file)
   first_challenge ← begun_file part.Challenge (get files first_challenge)
   first_reply ← begun_file part.Reply (get files first_reply)
   second_challenge ← begun_file part.SecondChallenge (get files second_challenge)
   second_reply ← begun_file part.SecondReply (get files second_reply)
-  Ok (whole board first_challenge first_reply second_challenge second_reply)
+  Ok (whole file first_challenge first_reply second_challenge second_reply)
 
 abbrev pub five_rests : Rest → Rest → Rest → Rest → Rest → Rest × Rest × Rest × Rest × Rest
-five_rests board first_challenge first_reply second_challenge second_reply =
-    (board, first_challenge, first_reply, second_challenge, second_reply)
+five_rests file first_challenge first_reply second_challenge second_reply =
+    (file, first_challenge, first_reply, second_challenge, second_reply)
 
 abbrev pub named_rests : Files → TwoReplies → Result (Rest × Rest × Rest × Rest × Rest) VErr
-named_rests files names = of_files five_rests files names.board.now names.challenge1.now
+named_rests files names = of_files five_rests files names.file.now names.challenge1.now
     names.reply1.now names.challenge2.now names.reply2.now

@@ -71,8 +71,8 @@ lane_fault number (Err lane.NoMemory) = Ok tt
 -- the lane of that number, for its bit: its lines in the file, its lines in the reply, its wires,
 -- its rows
 unfoldable pub lane_judged : StatementValue → ℕ → Bool → Rest → Rest → Result (Rest × Rest) Fault
-lane_judged s number bit board reply = do
-  lines ← in_part part.Board (lane_at number (later_wires s.plan) (length s.plan.rows) board)
+lane_judged s number bit file reply = do
+  lines ← in_part part.Board (lane_at number (later_wires s.plan) (length s.plan.rows) file)
   shown ← in_part part.Reply (reply_lane_at number s.plan.kinds bit reply)
   done ← lane_fault number (checked_lane s.plan (case_of s number lines.0) bit shown.0)
   Ok (lines.1, shown.1)
@@ -80,9 +80,9 @@ lane_judged s number bit board reply = do
 -- one lane for each bit, the first of them with that number
 unfoldable pub lanes_judged : StatementValue → ℕ → List Bool → Rest → Rest
     → Result (Rest × Rest) Fault
-lanes_judged s number [] board reply = Ok (board, reply)
-lanes_judged s number (bit ∷ bits) board reply =
-    lane_judged s number bit board reply >>= λ rests. lanes_judged s (number + 1) bits rests.0
+lanes_judged s number [] file reply = Ok (file, reply)
+lanes_judged s number (bit ∷ bits) file reply =
+    lane_judged s number bit file reply >>= λ rests. lanes_judged s (number + 1) bits rests.0
     rests.1
 
 -- ---- all that stands behind the front
@@ -94,16 +94,16 @@ counted lanes challenge replies = if length challenge.bits == lanes && replies =
 
 -- the end of the file, then the end of the reply
 unfoldable pub ends_judged : Rest → Rest → Result Unit Fault
-ends_judged board reply = do
-  board_over ← in_part part.Board (end_at board)
+ends_judged file reply = do
+  board_over ← in_part part.Board (end_at file)
   reply_over ← in_part part.Reply (end_at reply)
   Ok tt
 
 -- the tests in their order, from the first line behind the front on
 unfoldable pub behind_judged : StatementValue → Rest → Rest → Rest → Result Unit Fault
-behind_judged s board challenge reply = do
+behind_judged s file challenge reply = do
   bits ← in_part part.Challenge (challenge_at challenge)
   replies ← in_part part.Reply (reply_head_at reply)
   same ← counted s.lanes bits.0 replies.0
-  rests ← lanes_judged s 1 bits.0.bits board replies.1
+  rests ← lanes_judged s 1 bits.0.bits file replies.1
   ends_judged rests.0 rests.1

@@ -9,3 +9,6 @@ pub mod Acceptance
 pub mod TwoValues
 pub mod Refusals
 pub mod Wanting
+pub mod Opened
+pub mod FileForms
+pub mod HeldFiles

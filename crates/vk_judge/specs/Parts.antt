@@ -20,8 +20,8 @@ use Rattle.vk_judge.specs.Behind.{in_part, later_wires, case_of, lane_fault, lan
 
 -- all that is public of the lane of that number
 unfoldable pub case_at : StatementValue → ℕ → Rest → Result (LaneCase × Rest) Fault
-case_at s number board = do
-  lines ← in_part part.Board (lane_at number (later_wires s.plan) (length s.plan.rows) board)
+case_at s number file = do
+  lines ← in_part part.Board (lane_at number (later_wires s.plan) (length s.plan.rows) file)
   Ok (case_of s number lines.0, lines.1)
 
 -- what a reply shows of the lane for the bit, where it is accepted
@@ -43,8 +43,8 @@ attempt_at lanes challenge reply = do
 
 -- one lane for each bit, the first of them with that number, and then the ends
 unfoldable pub rest_judged : StatementValue → ℕ → List Bool → Rest → Rest → Result Unit Fault
-rest_judged s number bits board reply = do
-  rests ← lanes_judged s number bits board reply
+rest_judged s number bits file reply = do
+  rests ← lanes_judged s number bits file reply
   ends_judged rests.0 rests.1
 
 -- the lanes that are left of the statement, with a bit of the challenge for each of its lanes
@@ -57,9 +57,9 @@ rest_left left = rest_judged left.statement.now (left.judged + 1) (drop left.jud
 
 -- the tests in their order, part by part
 unfoldable pub behind_in_parts : StatementValue → Rest → Rest → Rest → Result Unit Fault
-behind_in_parts s board challenge reply = do
+behind_in_parts s file challenge reply = do
   attempt ← attempt_at s.lanes challenge reply
-  rest_judged s 1 attempt.0 board attempt.1
+  rest_judged s 1 attempt.0 file attempt.1
 
 -- the case of the lane of that number, by lines that stand in the file
 pub record IsLaneCase (s : StatementValue) (number : ℕ) (case : LaneCase) : Type 0 where

@@ -90,7 +90,7 @@ found_by accepted (Err fault) second = Refused false fault
 
 -- the file and both replies, each from where it is read on
 pub record Rests : Type 0 where
-  pub board : Rest
+  pub file : Rest
   pub first : Rest
   pub second : Rest
 
@@ -117,7 +117,7 @@ lane_shown first_bit second_bit case first second = (
     second_bit = second_bit;
     second = second.0;
   },
-  record { board = case.1; first = first.1; second = second.1 },
+  record { file = case.1; first = first.1; second = second.1 },
 )
 
 -- what the second reply shows of the lane of that number, after what the first does; the later bits
@@ -140,11 +140,11 @@ both_shown s number first_bit second_bit later rests case =
 unfoldable pub two_lane_at : StatementValue → ℕ → Bool → Bool → List Bool → Rests
     → Result (TwoLane × Rests) (Finding Fault)
 two_lane_at s number first_bit second_bit later rests =
-    of_first (case_at s number rests.board) >>= both_shown s number first_bit second_bit later rests
+    of_first (case_at s number rests.file) >>= both_shown s number first_bit second_bit later rests
 
 -- what is found where every lane was given
 unfoldable pub ends_found : Finding Fault → Rests → Finding Fault
-ends_found accepted rests = found_by accepted (ends_judged rests.board rests.first)
+ends_found accepted rests = found_by accepted (ends_judged rests.file rests.first)
     (in_part part.Reply (end_at rests.second))
 
 abbrev pub ahead_after : Result (TwoLane × Rests) (Finding Fault) → (Rests → Ahead Fault)
@@ -165,18 +165,18 @@ ahead_from s accepted number _ _ rests = over (ends_found accepted rests)
 -- the second attempt, after the first
 abbrev pub second_begun : StatementValue → Rest → Rest → Rest → List Bool × Rest
     → Result (Base × Rests) (Finding Fault)
-second_begun s board challenge reply first = do
-  second ← of_second (rest_judged s 1 first.0 board first.1) (attempt_at s.lanes challenge reply)
+second_begun s file challenge reply first = do
+  second ← of_second (rest_judged s 1 first.0 file first.1) (attempt_at s.lanes challenge reply)
   Ok (
     record { statement = s; first_bits = first.0; second_bits = second.0 },
-    record { board = board; first = first.1; second = second.1 },
+    record { file = file; first = first.1; second = second.1 },
   )
 
 -- what is read before the first lane: both challenges, and the heads of both replies
 unfoldable pub base_behind : StatementValue → Rest → Rest → Rest → Rest → Rest
     → Result (Base × Rests) (Finding Fault)
-base_behind s board first_challenge first_reply second_challenge second_reply =
-    of_first (attempt_at s.lanes first_challenge first_reply) >>= second_begun s board
+base_behind s file first_challenge first_reply second_challenge second_reply =
+    of_first (attempt_at s.lanes first_challenge first_reply) >>= second_begun s file
     second_challenge second_reply
 
 -- what is ahead after so many lanes
@@ -192,8 +192,8 @@ ahead_by (Err finding) = over finding
 -- what is given and found behind a front, of a challenge and the reply to it, and another challenge
 -- and reply
 abbrev pub ahead_behind : StatementValue → Rest → Rest → Rest → Rest → Rest → Ahead Fault
-ahead_behind s board first_challenge first_reply second_challenge second_reply =
-    ahead_by (base_behind s board first_challenge first_reply second_challenge second_reply)
+ahead_behind s file first_challenge first_reply second_challenge second_reply =
+    ahead_by (base_behind s file first_challenge first_reply second_challenge second_reply)
 
 -- what was read before the first lane, where there was no fault before it
 abbrev pub base_in : Result (Base × Rests) (Finding Fault) → Option Base
@@ -236,7 +236,7 @@ is_refused (Err halt.NoMemory) = false
 -- the file and both replies for the readers
 abbrev pub rests_of : TwoReaders → Files → Rests
 rests_of readers files = record {
-  board = rest_of readers.pair.board files;
+  file = rest_of readers.pair.file files;
   first = rest_of readers.pair.reply files;
   second = rest_of readers.second files;
 }
@@ -244,7 +244,7 @@ rests_of readers files = record {
 -- what five files come to for the readers of them
 abbrev pub of_two : {X : Type 0} → (Rest → Rest → Rest → Rest → Rest → X) → TwoAttempts → Files → X
 of_two whole two files =
-    whole (rest_of two.readers.pair.board files) (rest_of two.first_challenge files)
+    whole (rest_of two.readers.pair.file files) (rest_of two.first_challenge files)
     (rest_of two.readers.pair.reply files)
     (rest_of two.second_challenge files) (rest_of two.readers.second files)
 

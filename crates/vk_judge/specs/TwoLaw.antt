@@ -17,11 +17,11 @@ bits_read (Err line) = []
 -- way comes to
 abbrev pub FindsBy : (StatementValue → Rest → Rest → Rest → Result Unit Fault) → Type 0
 FindsBy judged = (s : StatementValue)
-    (board first_challenge first_reply second_challenge second_reply : Rest)
-    → (ahead_behind s board first_challenge first_reply second_challenge second_reply).finding
+    (file first_challenge first_reply second_challenge second_reply : Rest)
+    → (ahead_behind s file first_challenge first_reply second_challenge second_reply).finding
     ≡ two_result (accepted_of (bits_read (challenge_at first_challenge))
     (bits_read (challenge_at second_challenge)))
-    (judged s board first_challenge first_reply) (judged s board second_challenge second_reply)
+    (judged s file first_challenge first_reply) (judged s file second_challenge second_reply)
 
 abbrev pub FindsByJudging : Type 0
 FindsByJudging = FindsBy behind_judged

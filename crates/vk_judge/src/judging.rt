@@ -62,7 +62,7 @@ pub fn judge_rest<S: Shelf>(
 ) -> Result<(), Halt<Fault>>
     requires { AreLeft left }
     ensures modelled { IfSome (S.held shelf.old) (λ files. Judges (λ done. done) result
-        (rest_left left.entry (rest_of pair.old.board files) (rest_of pair.old.reply files))) }
+        (rest_left left.entry (rest_of pair.old.file files) (rest_of pair.old.reply files))) }
     ensures shelf { OnlyReads S.held S.Shelf.faults Halt.Failed result shelf.old shelf.new }
 {
     let LanesLeft {
@@ -109,10 +109,10 @@ pub fn judge_behind<S: Shelf>(
 pub fn read_ends<S: Shelf>(shelf: &mut S, pair: &mut FileAndReply) -> Result<(), Halt<Fault>>
     ensures modelled { IfSome (S.held shelf.old) (λ files.
         Judges (λ done. done) result
-        (ends_judged (rest_of pair.old.board files) (rest_of pair.old.reply files))) }
+        (ends_judged (rest_of pair.old.file files) (rest_of pair.old.reply files))) }
     ensures shelf { OnlyReads S.held S.Shelf.faults Halt.Failed result shelf.old shelf.new }
 {
-    in_part(Part::Board, pair.board.read_end(shelf))?;
+    in_part(Part::Board, pair.file.read_end(shelf))?;
     in_part(Part::Reply, pair.reply.read_end(shelf))?;
     Ok(())
 }

@@ -69,13 +69,13 @@ pub fn read_case<S: Shelf>(
     shelf: &mut S,
     statement: &Statement,
     lane: u32,
-    board: &mut Lines,
+    file: &mut Lines,
 ) -> Result<LaneCase, Halt<Fault>>
     requires first { 1 ≤ lane }
     requires last { lane ≤ statement.now.lanes }
     ensures modelled { IfSome (S.held shelf.old) (λ files.
-        Judges (λ case. (case, rest_of board.new files)) result
-        (case_at statement.now lane (rest_of board.old files))) }
+        Judges (λ case. (case, rest_of file.new files)) result
+        (case_at statement.now lane (rest_of file.old files))) }
     ensures right { IfOk result (IsLaneCase statement.now lane) }
     ensures fits { IfOk result (Fits statement.now.plan) }
     ensures shelf { OnlyReads S.held S.Shelf.faults Halt.Failed result shelf.old shelf.new }
@@ -84,7 +84,7 @@ pub fn read_case<S: Shelf>(
     let wires = plan.wires() - plan.inputs();
     let lines = in_part(
         Part::Board,
-        read_lane(alloc, shelf, board, lane, wires, plan.rows()),
+        read_lane(alloc, shelf, file, lane, wires, plan.rows()),
     )?;
     let case = case_of(alloc, statement, lane, lines)?;
     Ok(case)
@@ -157,12 +157,12 @@ pub fn judge_lane<S: Shelf>(
     requires first { 1 ≤ lane }
     requires last { lane ≤ statement.now.lanes }
     ensures modelled { IfSome (S.held shelf.old) (λ files.
-        Judges (λ _. (rest_of pair.new.board files, rest_of pair.new.reply files)) result
-        (lane_judged statement.now lane bit (rest_of pair.old.board files)
+        Judges (λ _. (rest_of pair.new.file files, rest_of pair.new.reply files)) result
+        (lane_judged statement.now lane bit (rest_of pair.old.file files)
         (rest_of pair.old.reply files))) }
     ensures shelf { OnlyReads S.held S.Shelf.faults Halt.Failed result shelf.old shelf.new }
 {
-    let case = read_case(alloc, shelf, statement, lane, &mut pair.board)?;
+    let case = read_case(alloc, shelf, statement, lane, &mut pair.file)?;
     read_checked(alloc, shelf, statement, &case, lane, bit, &mut pair.reply)?;
     Ok(())
 }

@@ -3,11 +3,13 @@
 #![tactic(auto)]
 
 mod answers;
+mod checker;
 mod halt;
 mod judging;
 mod lane;
 mod laws;
 mod named;
+mod opened;
 mod stage;
 mod statement;
 mod two;
@@ -16,10 +18,12 @@ mod two_lane;
 mod two_laws;
 
 pub use answers::{Fault, Part, VErr};
+pub use checker::{Checker, FileCourse, judge_file};
 pub use halt::{Halt, in_part, known};
 pub use judging::judge_behind;
 pub use laws::what_is_judged_behind_a_front_is_exact;
 pub use named::{OneReply, TwoReplies};
+pub use opened::{Opened, Refusal};
 pub use stage::{Attempt, Base, FileAndReply, Finding, Stage, TwoAttempts, TwoLane, TwoReaders};
 pub use statement::Statement;
 pub use two::LaneChecker;

@@ -25,10 +25,10 @@ pub struct OneReply<'a> {
     pub reply: &'a str,
 }
 
-/// The names of the files of a board, and of two challenges with the replies to them.
+/// The names of the files of a file, and of two challenges with the replies to them.
 #[derive(Clone, Copy, Debug)]
 pub struct TwoReplies<'a> {
-    pub board: &'a str,
+    pub file: &'a str,
     pub challenge1: &'a str,
     pub reply1: &'a str,
     pub challenge2: &'a str,
@@ -75,10 +75,10 @@ impl OneReply<'_> {
             self.now.reply.now)) }
         ensures shelf { OnlyReads S.held S.Shelf.faults VErr.Failed result shelf.old shelf.new }
     {
-        let board = begin(alloc, shelf, self.file, Part::Board)?;
+        let file = begin(alloc, shelf, self.file, Part::Board)?;
         let challenge = begin(alloc, shelf, self.challenge, Part::Challenge)?;
         let reply = begin(alloc, shelf, self.reply, Part::Reply)?;
-        let pair = FileAndReply { board, reply };
+        let pair = FileAndReply { file, reply };
         Ok(Attempt { challenge, pair })
     }
 }
@@ -93,12 +93,12 @@ impl TwoReplies<'_> {
         ensures wanting { IsErrOf result VErr.NoMemory → MemoryWasWanting }
         ensures shelf { OnlyReads S.held S.Shelf.faults VErr.Failed result shelf.old shelf.new }
     {
-        let board = begin(alloc, shelf, self.board, Part::Board)?;
+        let file = begin(alloc, shelf, self.file, Part::Board)?;
         let first_challenge = begin(alloc, shelf, self.challenge1, Part::Challenge)?;
         let reply = begin(alloc, shelf, self.reply1, Part::Reply)?;
         let second_challenge = begin(alloc, shelf, self.challenge2, Part::SecondChallenge)?;
         let second = begin(alloc, shelf, self.reply2, Part::SecondReply)?;
-        let pair = FileAndReply { board, reply };
+        let pair = FileAndReply { file, reply };
         let readers = TwoReaders { pair, second };
         Ok(TwoAttempts {
             first_challenge,

@@ -31,7 +31,7 @@ pub enum Finding<V> {
 /// A file and a reply, each from where it is to be read on.
 #[derive(Drop)]
 pub struct FileAndReply {
-    pub board: Lines,
+    pub file: Lines,
     pub reply: Lines,
 }
 

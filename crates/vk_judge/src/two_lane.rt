@@ -32,7 +32,7 @@ pub fn judge_on<S: Shelf>(
     requires { AreLeft left }
     ensures modelled { IfSome (S.held shelf.old)
         (λ files. IsTrue asked → Judges (λ done. done) result
-        (rest_left left.entry (rest_of pair.old.board files) (rest_of pair.old.reply files))) }
+        (rest_left left.entry (rest_of pair.old.file files) (rest_of pair.old.reply files))) }
     ensures kept { IsFalse asked → pair.new ≡ pair.old }
     ensures idle { IsFalse asked → IsOk result }
     ensures shelf { OnlyReads S.held S.Shelf.faults Halt.Failed result shelf.old shelf.new }
@@ -61,7 +61,7 @@ fn read_second<S: Shelf>(
     ensures modelled { IfSome (S.held shelf.old)
         (λ files. Judges (λ shown. (shown, rest_of readers.new.second files)) result
         (of_second (rest_judged base.now.statement (lane + 1) (drop lane base.now.first_bits)
-        (rest_of readers.old.pair.board files) (rest_of readers.old.pair.reply files))
+        (rest_of readers.old.pair.file files) (rest_of readers.old.pair.reply files))
         (reply_judged base.now.statement.plan case.now lane bit
         (rest_of readers.old.second files)))) }
     ensures pair { OnOk result (readers.new.pair ≡ readers.old.pair) }
@@ -89,7 +89,7 @@ fn read_second<S: Shelf>(
     second
 }
 
-/// Reads the lane on the board and in both replies, and checks it once for each bit.
+/// Reads the lane on the file and in both replies, and checks it once for each bit.
 #[tactic(auto, unfolding(crate::specs::Two::two_lane_at))]
 fn read_two<S: Shelf>(
     alloc: Global,
@@ -112,7 +112,7 @@ fn read_two<S: Shelf>(
     ensures shelf { OnlyReads S.held S.Shelf.faults Halt.Failed result shelf.old shelf.new }
 {
     let statement = &base.statement;
-    let case = of_first(read_case(alloc, shelf, statement, lane, &mut readers.pair.board))?;
+    let case = of_first(read_case(alloc, shelf, statement, lane, &mut readers.pair.file))?;
     let first = of_first(read_checked(
         alloc,
         shelf,
@@ -132,7 +132,7 @@ fn read_two<S: Shelf>(
     })
 }
 
-/// Reads the end of the second reply, where the ends of the board and the first reply stand.
+/// Reads the end of the second reply, where the ends of the file and the first reply stand.
 fn read_second_end<S: Shelf>(
     shelf: &mut S,
     standing: bool,
@@ -151,7 +151,7 @@ fn read_second_end<S: Shelf>(
     Ok(())
 }
 
-/// Reads the ends of the board, of the first reply and of the second: what is found.
+/// Reads the ends of the file, of the first reply and of the second: what is found.
 #[tactic(auto, unfolding(crate::specs::Two::ends_found))]
 fn read_finding<S: Shelf>(shelf: &mut S, base: &Base, readers: &mut TwoReaders) -> TwoHalt
     ensures modelled { IfSome (S.held shelf.old) (λ files.
@@ -215,7 +215,7 @@ fn begin_second<S: Shelf>(
     ensures modelled { IfSome (S.held shelf.old)
         (λ files. Judges (λ bits. (bits, rest_of readers.new.second files)) result
         (of_second (rest_judged statement.now 1 first_bits.now
-        (rest_of readers.old.pair.board files) (rest_of readers.old.pair.reply files))
+        (rest_of readers.old.pair.file files) (rest_of readers.old.pair.reply files))
         (attempt_at statement.now.lanes (rest_of challenge.old files)
         (rest_of readers.old.second files)))) }
     ensures pair { OnOk result (readers.new.pair ≡ readers.old.pair) }
@@ -249,7 +249,7 @@ pub fn begin_lanes<S: Shelf>(
 ) -> Result<Base, TwoHalt>
     ensures modelled { IfSome (S.held shelf.old)
         (λ files. Judges (λ base. (base, rests_of readers.new files)) result
-        (base_behind statement (rest_of readers.old.pair.board files) (rest_of first.old files)
+        (base_behind statement (rest_of readers.old.pair.file files) (rest_of first.old files)
         (rest_of readers.old.pair.reply files) (rest_of second.old files)
         (rest_of readers.old.second files))) }
     ensures right { IfOk result IsBase }

@@ -13,6 +13,6 @@ returns-in_err-first_bits-clause-modelled g c =
     c.in_err-first_bits.field-0.0 _ (λ files. rest_of c.read_attempt.new.reply files)
     (λ files. attempt_at c.args.statement.lanes (rest_of c.args.first.now files)
     (rest_of c.args.readers.now.pair.reply files))
-    (λ files. second_begun c.args.statement (rest_of c.args.readers.now.pair.board files)
+    (λ files. second_begun c.args.statement (rest_of c.args.readers.now.pair.file files)
     (rest_of c.args.second.now files) (rest_of c.args.readers.now.second files))
     _ (search rules) c.in_err-first_bits.ensures.found (search rules)

@@ -10,7 +10,7 @@ returns-clause-modelled g c =
     c.read_attempt-attempt.result c.judge_on-first.result c.of_second-second.result
     c.is_refused-asked.result
     (λ files. rest_judged c.args.statement.now 1 c.args.first_bits.now
-    (rest_of c.args.readers.now.pair.board files) (rest_of c.args.readers.now.pair.reply files))
+    (rest_of c.args.readers.now.pair.file files) (rest_of c.args.readers.now.pair.reply files))
     (λ files. attempt_at c.args.statement.now.lanes (rest_of c.args.challenge.now files)
     (rest_of c.args.readers.now.second files))
     (λ files. rest_of c.read_attempt-attempt.new.reply files)

@@ -13,7 +13,7 @@ returns-clause-modelled g c =
     c.read_ends-first.result c.read_second_end-second.result c.found_by-found.result
     c.accepted_of-accepted.result
     (accepted_of c.args.base.now.first_bits c.args.base.now.second_bits) c.is_ok.result
-    (λ files. ends_judged (rest_of c.args.readers.now.pair.board files)
+    (λ files. ends_judged (rest_of c.args.readers.now.pair.file files)
     (rest_of c.args.readers.now.pair.reply files))
     (λ files. in_part part.Reply (end_at (rest_of c.args.readers.now.second files)))
     (λ files. rest_of c.read_second_end-second.new.second files)

@@ -12,12 +12,12 @@ returns-clause-modelled g c =
     (λ files. IsTrue c.is_refused-asked.result
     → Judges (λ (done : Unit {0}). done) c.judge_on-first.result
     (rest_judged c.args.base.now.statement (c.args.lane + 1) (drop c.args.lane bits)
-    (rest_of c.args.readers.now.pair.board files) (rest_of c.args.readers.now.pair.reply files))) in
+    (rest_of c.args.readers.now.pair.file files) (rest_of c.args.readers.now.pair.reply files))) in
     second_found (g.S.Shelf.held c.args.shelf.now) (g.S.Shelf.held c.read_checked-judged.new.shelf)
     c.read_checked-judged.result c.judge_on-first.result c.of_second-second.result
     c.is_refused-asked.result
     (λ files. rest_judged c.args.base.now.statement (c.args.lane + 1)
-    (drop c.args.lane c.args.base.now.first_bits) (rest_of c.args.readers.now.pair.board files)
+    (drop c.args.lane c.args.base.now.first_bits) (rest_of c.args.readers.now.pair.file files)
     (rest_of c.args.readers.now.pair.reply files))
     (λ files. reply_judged c.args.base.now.statement.plan c.args.case.now c.args.lane c.args.bit
     (rest_of c.args.readers.now.second files))

@@ -13,9 +13,9 @@ pub returns-in_err-case-clause-modelled : goal.returns-in_err-case-clause-modell
 unfolding two_lane_at
 returns-in_err-case-clause-modelled g c =
     first_refused {T = TwoLane} (g.S.Shelf.held c.args.shelf.now) c.read_case.result
-    c.in_err-case.field-0.0 _ (λ files. rest_of c.read_case.new.board files)
+    c.in_err-case.field-0.0 _ (λ files. rest_of c.read_case.new.file files)
     (λ files. case_at c.args.base.now.statement c.args.lane
-    (rest_of c.args.readers.now.pair.board files))
+    (rest_of c.args.readers.now.pair.file files))
     (λ files. both_shown c.args.base.now.statement c.args.lane c.args.first_bit c.args.second_bit
     (drop c.args.lane c.args.base.now.first_bits) (rests_of c.args.readers.now files))
     _ (search rules) c.in_err-case.ensures.found c.read_case.ensures.modelled
@@ -25,15 +25,15 @@ unfolding two_lane_at
 returns-in_err-first-clause-modelled g c =
     let readers : TwoReaders =
     record {
-      pair = record { board = c.read_case.new.board; reply = c.read_checked.new.reply };
+      pair = record { file = c.read_case.new.file; reply = c.read_checked.new.reply };
       second = c.args.readers.now.second;
     } in
     returned {T = TwoLane} (g.S.Shelf.held c.args.shelf.now) _ c.in_err-first.field-0.0
     _ _ (search rules)
     (first_past (g.S.Shelf.held c.args.shelf.now) (g.S.Shelf.held c.args.shelf.now)
-    c.read_case.result c.in_ok-case.case (λ files. rest_of c.read_case.new.board files)
+    c.read_case.result c.in_ok-case.case (λ files. rest_of c.read_case.new.file files)
     (λ files. case_at c.args.base.now.statement c.args.lane
-    (rest_of c.args.readers.now.pair.board files))
+    (rest_of c.args.readers.now.pair.file files))
     (λ files. both_shown c.args.base.now.statement c.args.lane c.args.first_bit c.args.second_bit
     (drop c.args.lane c.args.base.now.first_bits) (rests_of c.args.readers.now files))
     (λ files. Judges {T = TwoLane} (λ two. (two, rests_of readers files))
@@ -46,6 +46,6 @@ returns-in_err-first-clause-modelled g c =
     c.args.first_bit (rest_of c.args.readers.now.pair.reply files))
     (λ files. second_shown c.args.base.now.statement c.args.lane c.args.first_bit c.args.second_bit
     (drop c.args.lane c.args.base.now.first_bits) (rests_of c.args.readers.now files)
-    (c.in_ok-case.case, rest_of c.read_case.new.board files))
+    (c.in_ok-case.case, rest_of c.read_case.new.file files))
     (λ files two. (two, rests_of readers files))
     c.read_case.ensures.shelf.held c.in_err-first.ensures.found c.read_checked.ensures.modelled))

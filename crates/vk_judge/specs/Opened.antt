@@ -1,0 +1,164 @@
+-- Files of any form, from their first lines on: what stands before the first lane, and then what
+-- stands behind it.
+use Rattle.std.specs.Prelude.{◌≡◌, ℕ, false, List, Option, Some, None, IsSome, IfOk, IfSome, option_map, Result, Ok, Err}
+use Rattle.vk_io.specs.Files.{Files}
+use Rattle.vk_lines.specs.Lines.{Rest}
+use Rattle.vk_judge.specs.declared.answers.Fault.{Fault}
+use Rattle.vk_judge.specs.declared.opened.Opened.{Opened}
+use Rattle.vk_judge.specs.declared.opened.Refusal.{Refusal}
+use Rattle.vk_judge.specs.declared.opened.Refusal.TheVariants as refusal
+use Rattle.vk_judge.specs.declared.checker.FileCourse.{FileCourse}
+use Rattle.vk_judge.specs.declared.stage.Base.{Base}
+use Rattle.vk_judge.specs.declared.stage.Finding.{Finding}
+use Rattle.vk_judge.specs.declared.stage.Finding.TheVariants.{Refused, Same, Ready}
+use Rattle.vk_judge.specs.declared.stage.TwoLane.{TwoLane}
+use Rattle.vk_judge.specs.Behind.{behind_judged}
+use Rattle.vk_judge.specs.Begun.{from_start}
+use Rattle.vk_judge.specs.Two.{Ahead, IsNextLane, IsStage, ahead_behind, ahead_of, base_behind, base_in, base_of, finding_of, given_of, over, with_lane}
+
+-- how files of a form are read before their first lane: H is what their head says, and R what a
+-- file may be refused for by what its front says
+abbrev pub Front : Type 0 → Type 0 → Type 0
+Front H R = Rest → Result (Opened H × Rest) (Refusal R)
+
+-- ---- one reply
+
+-- what is judged behind the front
+abbrev pub in_file : {X R : Type 0} → Result X Fault → Result X (Refusal R)
+in_file (Ok x) = Ok x
+in_file (Err fault) = Err (refusal.Fault fault)
+
+-- after what was read before the first lane
+abbrev pub judged_past : {H R : Type 0} → Result (Opened H × Rest) (Refusal R) → Rest → Rest
+    → Result Unit (Refusal R)
+judged_past (Ok opened) challenge reply =
+    in_file (behind_judged opened.0.statement opened.1 challenge reply)
+judged_past (Err refusal) challenge reply = Err refusal
+
+-- of a file, a challenge and the reply to it
+abbrev pub file_judged : {H R : Type 0} → Front H R → Rest → Rest → Rest → Result Unit (Refusal R)
+file_judged front file = judged_past (front file)
+
+-- of their bytes
+abbrev pub judged_in : {H R : Type 0} → Front H R → List ℕ → List ℕ → List ℕ
+    → Result Unit (Refusal R)
+judged_in front file challenge reply =
+    file_judged front (from_start file) (from_start challenge) (from_start reply)
+
+-- ---- two replies
+
+-- what is found behind the front, as it is told of the file
+abbrev pub as_found : {R : Type 0} → Finding Fault → Finding (Refusal R)
+as_found (Refused second fault) = Refused second (refusal.Fault fault)
+as_found Same = Same
+as_found Ready = Ready
+
+abbrev pub as_ahead : {R : Type 0} → Ahead Fault → Ahead (Refusal R)
+as_ahead ahead = record { lanes = ahead.lanes; finding = as_found ahead.finding }
+
+-- the head of a file, what its lanes are to show, and the bits of both challenges
+pub record FileBase (H : Type 0) : Type 0 where
+  pub head : H
+  pub base : Base
+
+abbrev pub with_head : {H : Type 0} → H → Base → FileBase H
+with_head head base = record { head = head; base = base }
+
+-- the file that was opened
+abbrev pub opened_in : {H : Type 0} → FileBase H → Opened H
+opened_in known = record { head = known.head; statement = known.base.statement }
+
+-- what was read before the first lane, where there was no fault so far; and what is still to be
+-- given and found
+pub record Coming (H R : Type 0) : Type 0 where
+  pub base : Option (FileBase H)
+  pub ahead : Ahead (Refusal R)
+
+-- of a file that is refused before its first lane
+abbrev pub refused : {H R : Type 0} → Refusal R → Coming H R
+refused refusal = record { base = None; ahead = over (Refused false refusal) }
+
+-- of one with this head, by what there is behind its front
+abbrev pub coming_with : {H R : Type 0} → H → Option Base → Ahead Fault → Coming H R
+coming_with head base ahead =
+    record { base = option_map (with_head head) base; ahead = as_ahead ahead }
+
+-- after what was read before the first lane
+abbrev pub coming_past : {H R : Type 0} → Result (Opened H × Rest) (Refusal R) → Rest → Rest → Rest
+    → Rest → Coming H R
+coming_past (Ok opened) challenge reply other second =
+    coming_with opened.0.head
+    (base_in (base_behind opened.0.statement opened.1 challenge reply other second))
+    (ahead_behind opened.0.statement opened.1 challenge reply other second)
+coming_past (Err refusal) challenge reply other second = refused refusal
+
+-- of a file, a challenge and the reply to it, and another challenge and reply
+abbrev pub file_coming : {H R : Type 0} → Front H R → Rest → Rest → Rest → Rest → Rest
+    → Coming H R
+file_coming front file = coming_past (front file)
+
+-- of their bytes
+abbrev pub coming_in : {H R : Type 0} → Front H R → List ℕ → List ℕ → List ℕ → List ℕ → List ℕ
+    → Coming H R
+coming_in front file challenge reply other second =
+    file_coming front (from_start file) (from_start challenge) (from_start reply)
+    (from_start other) (from_start second)
+
+-- ---- how far two replies to a file were read: lane by lane, or not past a refusal
+
+abbrev pub Checked : Type 0 → Type 0 → Type 0
+Checked H R = Result (FileCourse H) (Refusal R)
+
+abbrev pub IsChecked : {H R : Type 0} → Checked H R → Type 0
+IsChecked checked = IfOk checked (λ course. IsStage course.lanes)
+
+-- what was found, where no lane is given any more
+abbrev pub checked_finding : {H R : Type 0} → Checked H R → Option (Finding (Refusal R))
+checked_finding (Ok course) = option_map as_found (finding_of course.lanes)
+checked_finding (Err refusal) = Some (Refused false refusal)
+
+-- what was read before the first lane, where there was no fault so far
+abbrev pub checked_base : {H R : Type 0} → Checked H R → Option (FileBase H)
+checked_base (Ok course) = option_map (with_head course.head) (base_of course.lanes)
+checked_base (Err refusal) = None
+
+-- how many lanes were given
+abbrev pub checked_given : {H R : Type 0} → Checked H R → ℕ
+checked_given (Ok course) = given_of course.lanes
+checked_given (Err refusal) = 0
+
+-- what is still to be given and found of the files
+abbrev pub coming_of : {H R : Type 0} → Checked H R → Files → Coming H R
+coming_of (Ok course) files =
+    coming_with course.head (base_of course.lanes) (ahead_of course.lanes files)
+coming_of (Err refusal) files = refused refusal
+
+-- the head and the statement are known
+abbrev pub HasOpened : {H R : Type 0} → Checked H R → Type 0
+HasOpened checked = IsSome (checked_base checked)
+
+-- no lane is given any more
+abbrev pub IsCheckedOver : {H R : Type 0} → Checked H R → Type 0
+IsCheckedOver checked = IsSome (checked_finding checked)
+
+-- a lane is given, and then what is ahead of what was read further; or what is found
+abbrev pub CheckedGoesOn : {H R : Type 0} → Checked H R → Option TwoLane → Checked H R → Files
+    → Type 0
+CheckedGoesOn old (Some lane) new files =
+    (coming_of old files).ahead ≡ with_lane lane (coming_of new files).ahead
+CheckedGoesOn {H} {R} old None new files =
+    (found : Finding (Refusal R)) × (checked_finding new ≡ Some found)
+    × ((coming_of old files).ahead ≡ over found)
+
+-- a lane that is given is the next one of the file's lanes
+abbrev pub IsNextOfFile : {H R : Type 0} → Checked H R → Checked H R → TwoLane → Type 0
+IsNextOfFile (Ok old) (Ok new) lane = IsNextLane old.lanes new.lanes lane
+IsNextOfFile _ _ lane = ⊥
+
+-- one step: the next lane is given, or none, where no lane is given any more; what was read before
+-- the first lane stays
+pub record IsLaneStep {H R : Type 0} (old : Checked H R) (lane : Option TwoLane)
+    (new : Checked H R) : Type 0 where
+  pub next : IfSome lane (IsNextOfFile old new)
+  pub none : lane ≡ None → IsCheckedOver new × (checked_given new ≡ checked_given old)
+  pub base : checked_base new ≡ checked_base old
