@@ -1,6 +1,6 @@
 -- Files of a form whose front is exact.
 use Rattle.std.proofs.Common.{◌≡◌, ℕ, Bool, true, false, if◌then◌else◌, List, ◌++◌, Some, Result, Ok, Err, inl, inr, refl, ap, sym, subst, ◌∙◌}
-use Rattle.std.specs.Prelude.{option_map}
+use Rattle.std.specs.Prelude.{option_map, ◌↔◌}
 use Rattle.vk_lines.specs.Lines.{Rest}
 use Rattle.vk_judge.specs.declared.answers.Part.TheVariants as part
 use Rattle.vk_judge.specs.declared.answers.Fault.{Fault}
@@ -257,11 +257,11 @@ pub accepted_give : {F H R : Type 0} (form : Form F H R) → IsForm form → Acc
 accepted_give form is file challenge reply other second one two =
     on_one form is one two (Gives form is one) (given_behind form is one)
 
-found_accepted : {R : Type 0} (finding : Finding Fault)
+found_accepted : (R : Type 0) (finding : Finding Fault)
     → BothAreAccepted (as_found {R = R} finding) → BothAreAccepted finding
-found_accepted (Refused of_second fault) accepted = absurd accepted
-found_accepted Same accepted = accepted
-found_accepted Ready accepted = accepted
+found_accepted R (Refused of_second fault) accepted = absurd accepted
+found_accepted R Same accepted = accepted
+found_accepted R Ready accepted = accepted
 
 module _ {F H R : Type 0} (form : Form F H R) (is : IsForm form) (file challenge reply other second : List ℕ) where
   abbrev Both : Result (Opened H × Rest) (Refusal R) → Type 0
@@ -277,7 +277,7 @@ module _ {F H R : Type 0} (form : Form F H R) (is : IsForm form) (file challenge
       (from_start other) (from_start second) in
       let are = only_accepted_behind s (is.statement front opened.right) (form.fronts.text front)
       file challenge reply other second opened.is.after opened.is.text
-      (found_accepted {R = R} found.finding (subst Both opened.is.read both)) in (
+      (found_accepted R found.finding (subst Both opened.is.read both)) in (
         record { front = front; right = opened.right; behind = are.0 },
         record { front = front; right = opened.right; behind = are.1 },
       )

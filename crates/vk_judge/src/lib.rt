@@ -28,6 +28,7 @@ pub use stage::{Attempt, Base, FileAndReply, Finding, Stage, TwoAttempts, TwoLan
 pub use statement::Statement;
 pub use two::LaneChecker;
 pub use two_laws::{
-    a_finding_is_by_judging_both, only_replies_accepted_behind_a_front_are_found_to_be,
+    a_finding_is_by_both_replies, a_finding_is_by_judging_both,
+    named_files_come_to_what_their_bytes_do, only_replies_accepted_behind_a_front_are_found_to_be,
     replies_accepted_behind_a_front_give_their_values,
 };

@@ -1,5 +1,9 @@
 //! What two replies come to behind a front, of any statement.
 
+ghost use Rattle.vk_lines.specs.Lines.{Rest};
+ghost use Rattle.vk_judge.specs.FileForms.{FindsByBoth};
+ghost use Rattle.vk_judge.specs.HeldFiles.{AreOfHeld};
+ghost use Rattle.vk_judge.specs.Opened.{Front};
 ghost use Rattle.vk_judge.specs.TwoLaw.{FindsByJudging};
 ghost use Rattle.vk_judge.specs.TwoValues.{AcceptedBehindGive, OnlyAcceptedBehind};
 
@@ -19,4 +23,15 @@ pub fn replies_accepted_behind_a_front_give_their_values()
 /// them is.
 pub fn only_replies_accepted_behind_a_front_are_found_to_be()
     ensures { OnlyAcceptedBehind }
+{}
+
+/// A law of files of every form: what is found of two replies is what judging each of them comes to.
+pub fn a_finding_is_by_both_replies<H, R>()
+    ensures { (front : Front H R) → FindsByBoth front }
+{}
+
+/// A law: what five named files come to, begun one after another, is what their bytes do, where all
+/// are held and none has more than 2^30.
+pub fn named_files_come_to_what_their_bytes_do<X>()
+    ensures { (whole : Rest → Rest → Rest → Rest → Rest → X) → AreOfHeld whole }
 {}
