@@ -1,0 +1,104 @@
+-- The law of two replies to a file of any form that are accepted for different challenges: they open
+-- values for which its circuit holds, or give two openings of one commitment.
+use Rattle.std.specs.Prelude.{◌≡◌, ◌≢◌, ◌↔◌, ℕ, Bool, true, false, All, List, map}
+use Rattle.vk_commit.specs.Commitment.{TwoOpeningsSeen}
+use Rattle.vk_wire.specs.declared.wire.Shown.{Shown}
+use Rattle.vk_judge.specs.FileForms.{Accepts, Form, Fronts, bits_of, two_lane_in}
+use Rattle.vk_judge.specs.Opened.{coming_in}
+use Rattle.vk_bids.specs.declared.extraction.Extraction.TheVariants.{Same}
+use Rattle.vk_bids.specs.declared.file_extraction.OpenedFile.{OpenedFile}
+use Rattle.vk_bids.specs.declared.lane_extraction.OpenedLanes.{OpenedLanes}
+use Rattle.vk_bids.specs.Extractions.{IsClashOr, IsFound}
+use Rattle.vk_bids.specs.FileExtraction.{FileExtraction, IsFoundBy, file_extraction_in}
+use Rattle.vk_bids.specs.Gathering.{lane_shown}
+use Rattle.vk_bids.specs.Headline.{AgreesAt, IsFirstClashOf, differing}
+use Rattle.vk_bids.specs.Opening.{AreShownIn, LaneOpens}
+
+-- two replies are accepted with one file, each with its challenge, and the challenges differ
+pub record TwoAccepted {F : Type 0} (fronts : Fronts F)
+    (file first_challenge first_reply second_challenge second_reply : List ℕ) : Type 0 where
+  pub first : Accepts fronts file first_challenge first_reply
+  pub second : Accepts fronts file second_challenge second_reply
+  pub differ : bits_of first ≢ bits_of second
+
+-- two replies are accepted, and the challenges are the same
+pub record SameAccepted {F : Type 0} (fronts : Fronts F)
+    (file first_challenge first_reply second_challenge second_reply : List ℕ) : Type 0 where
+  pub first : Accepts fronts file first_challenge first_reply
+  pub second : Accepts fronts file second_challenge second_reply
+  pub same : bits_of first ≡ bits_of second
+
+module _ {F : Type 0} {fronts : Fronts F} {file first_challenge first_reply second_challenge second_reply : List ℕ}
+    (two : TwoAccepted fronts file first_challenge first_reply second_challenge second_reply) where
+  -- the numbers of the lanes whose two bits differ, from 1
+  abbrev pub differing_in : List ℕ
+  differing_in = differing 1 (bits_of two.first) (bits_of two.second)
+
+  -- what the reply whose bit for the lane of that number is this one shows of the lane
+  abbrev pub shown_of : Bool → ℕ → List Shown
+  shown_of bit number = lane_shown bit (two_lane_in two.first two.second number)
+
+  -- in the lane of that number each spent entry agrees with the same entry opened whole
+  abbrev pub LaneAgrees : ℕ → Type 0
+  LaneAgrees = AgreesAt (two_lane_in two.first two.second)
+
+  -- the values are of just the lanes whose two bits differ, in order. Those of each lane are opened
+  -- by what the replies show of it, they open its seals, and are inputs for which the circuit
+  -- holds. In each of these lanes the spent entries agree
+  pub record IsOpenedBy (opened : OpenedLanes) : Type 0 where
+    pub statement : opened.statement ≡ fronts.statement two.first.front
+    pub numbers : map (λ lane. lane.number) opened.lanes ≡ differing_in
+    pub shown : All (λ lane. AreShownIn (shown_of false lane.number) (shown_of true lane.number)
+        lane.bids) opened.lanes
+    pub opens : All (LaneOpens (fronts.statement two.first.front)) opened.lanes
+    pub agree : All LaneAgrees differing_in
+
+  -- one commitment of the file is opened with different values
+  abbrev pub IsClashOf : TwoOpeningsSeen → Type 0
+  IsClashOf clash =
+      IsFirstClashOf (two_lane_in two.first two.second) differing_in
+      (fronts.statement two.first.front).auction clash
+
+-- the values are those of the replies, and the head that of the file
+pub record IsOpenedFile {F H R : Type 0} (form : Form F H R)
+    {file first_challenge first_reply second_challenge second_reply : List ℕ}
+    (two : TwoAccepted form.fronts file first_challenge first_reply second_challenge second_reply)
+    (found : OpenedFile H) : Type 0 where
+  pub head : found.head ≡ form.head two.first.front
+  pub opened : IsOpenedBy two found.opened
+
+-- what the replies come to is their values, or a clash of them
+abbrev pub IsOfFile : {F H R : Type 0} (form : Form F H R)
+    {file first_challenge first_reply second_challenge second_reply : List ℕ}
+    → TwoAccepted form.fronts file first_challenge first_reply second_challenge second_reply
+    → FileExtraction H R → Type 0
+IsOfFile form two = IsClashOr (IsClashOf two) (IsOpenedFile form two)
+
+-- two replies that are accepted for different challenges give values or a clash
+abbrev pub AcceptedOpen : {F H R : Type 0} → Form F H R → Type 0
+AcceptedOpen form = (file first_challenge first_reply second_challenge second_reply : List ℕ)
+    (two : TwoAccepted form.fronts file first_challenge first_reply second_challenge second_reply)
+    → IsOfFile form two
+    (file_extraction_in form.front_at file first_challenge first_reply second_challenge second_reply)
+
+-- only such replies do
+abbrev pub OnlyAcceptedOpenFile : {F H R : Type 0} → Form F H R → Type 0
+OnlyAcceptedOpenFile form = (file first_challenge first_reply second_challenge second_reply : List ℕ)
+    → IsFound
+    (file_extraction_in form.front_at file first_challenge first_reply second_challenge second_reply)
+    → TwoAccepted form.fronts file first_challenge first_reply second_challenge second_reply
+
+-- challenges are found to be the same exactly where both replies are accepted and they are
+abbrev pub SameIsFoundOfFile : {F H R : Type 0} → Form F H R → Type 0
+SameIsFoundOfFile form = (file first_challenge first_reply second_challenge second_reply : List ℕ)
+    → (file_extraction_in form.front_at file first_challenge first_reply second_challenge
+    second_reply ≡ Same)
+    ↔ SameAccepted form.fronts file first_challenge first_reply second_challenge second_reply
+
+-- what the extraction comes to is what is found
+abbrev pub ExtractsByFinding : {F H R : Type 0} → Form F H R → Type 0
+ExtractsByFinding form = (file first_challenge first_reply second_challenge second_reply : List ℕ)
+    → IsFoundBy (λ refusal. refusal)
+    (coming_in form.front_at file first_challenge first_reply second_challenge
+    second_reply).ahead.finding
+    (file_extraction_in form.front_at file first_challenge first_reply second_challenge second_reply)
