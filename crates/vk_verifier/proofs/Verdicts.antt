@@ -1,6 +1,6 @@
--- A verdict is given on a board exactly where it holds: its front is read, and what stands behind
--- it is judged.
-use Rattle.std.proofs.Common.{◌≡◌, ℕ, ◌+◌, List, ◌++◌, length, Result, Ok, Err, inl, inr, refl, ap, sym, ◌∙◌, subst}
+-- Reading a board before its first lane is exact, and so is the verdict on it.
+use Rattle.std.proofs.Common.{◌≡◌, ℕ, ◌+◌, List, ◌++◌, length, Result, Ok, Err, refl, ap, sym, ◌∙◌, subst}
+use Rattle.std.specs.Prelude.{◌↔◌}
 use Rattle.std.specs.Result.{result_err}
 use Rattle.vk_residue.specs.Steps.{◌>>=◌}
 use Rattle.vk_lines.specs.Lines.{Rest, end_at}
@@ -20,18 +20,25 @@ use Rattle.vk_board.proofs.FrontLaws.{fronts_read, fronts_refused}
 use Rattle.vk_judge.specs.declared.answers.Part.TheVariants as part
 use Rattle.vk_judge.specs.declared.answers.Fault.{Fault}
 use Rattle.vk_judge.specs.declared.answers.Fault.TheVariants as behind
+use Rattle.vk_judge.specs.declared.opened.Opened.{Opened}
+use Rattle.vk_judge.specs.declared.opened.Refusal.{Refusal}
+use Rattle.vk_judge.specs.declared.opened.Refusal.TheVariants as refusal
+use Rattle.vk_judge.specs.Begun.{from_start}
+use Rattle.vk_judge.specs.FileForms.{IsForm, JudgedHolds, OpenedFront, ReadFront}
+use Rattle.vk_judge.specs.Opened.{judged_in}
+use Rattle.vk_judge.specs.Refusals.{BeginsWith, lanes_and_end_at}
+use Rattle.vk_judge.proofs.Exact.{stop_is}
+use Rattle.vk_judge.proofs.FileForms.{judged_exact, judged_holds}
+use Rattle.vk_judge.proofs.Steps.{value_same}
+use Rattle.vk_verifier.specs.declared.answers.BoardRefusal.{BoardRefusal}
+use Rattle.vk_verifier.specs.declared.answers.BoardRefusal.TheVariants as refuses
 use Rattle.vk_verifier.specs.declared.answers.BoardVerdict.{BoardVerdict}
 use Rattle.vk_verifier.specs.declared.answers.BoardVerdict.TheVariants.{Accepted, Malformed, Price, Winner, Lanes, Wire, Row}
-use Rattle.vk_judge.specs.Behind.{behind_judged}
-use Rattle.vk_judge.specs.Begun.{from_start}
-use Rattle.vk_verifier.specs.Verdicts.{front_verdict, in_front, statement_of, as_verdict, in_board, judged, verdict_by, verdict_of}
-use Rattle.vk_verifier.specs.Acceptance.{shape_of, Accepts, AcceptedExactly}
-use Rattle.vk_judge.specs.Refusals.{lanes_and_end_at}
-use Rattle.vk_verifier.specs.Refusals.{HasFront, IsBoardLine, FailsBehind, VerdictHolds, VerdictsAreExact}
+use Rattle.vk_verifier.specs.declared.boards.PlacedHead.{PlacedHead}
+use Rattle.vk_verifier.specs.Verdicts.{board_front_at, board_front, front_refusal, in_front, judged_of, opened_board, statement_of, verdict_by, verdict_of}
+use Rattle.vk_verifier.specs.Acceptance.{AcceptedExactly, shape_of}
+use Rattle.vk_verifier.specs.Refusals.{BoardRefuses, BoardStops, IsBoardLine, VerdictHolds, VerdictsAreExact, board_form}
 use Rattle.vk_verifier.proofs.Plans.{statement_right, wires_are, rows_are}
-use Rattle.vk_judge.proofs.Accepted.{accepted_behind}
-use Rattle.vk_judge.proofs.Reasons.{fault_holds}
-use Rattle.vk_judge.proofs.Exact.{stop_is, fault_given}
 
 -- ---- the fault line of a board that has a front
 
@@ -103,127 +110,184 @@ module _ (board : List ℕ) where
       stop_is (lanes_and_end_at (statement_of front) after) line
       (sym (line_same front after is read) ∙ sym (board_fault shape_of board) ∙ fault)
 
--- ---- each verdict that is given holds
+-- ---- the front
 
-module _ (board challenge reply : List ℕ) where
-  abbrev Why : BoardVerdict → Type 0
-  Why verdict = VerdictHolds verdict board challenge reply
+abbrev opened_past : Result (Front × Rest) FrontFault
+    → Result (Opened PlacedHead × Rest) (Refusal BoardRefusal)
+opened_past read = in_front read >>= λ front. Ok (opened_board front.0, front.1)
 
-  abbrev judged_behind : Front → Rest → Result (Unit {0}) Fault
-  judged_behind front after = behind_judged (statement_of front) after (from_start challenge)
-      (from_start reply)
+-- the fault of a front that is refused
+abbrev fault_by : Refusal BoardRefusal → FrontFault
+fault_by (refusal.Front refuses.Price) = fronts.Price
+fault_by (refusal.Front refuses.Winner) = fronts.Winner
+fault_by (refusal.Fault (behind.Malformed file line)) = fronts.Malformed line
+fault_by (refusal.Fault behind.Lanes) = fronts.Price
+fault_by (refusal.Fault (behind.Wire lane wire why)) = fronts.Price
+fault_by (refusal.Fault (behind.Row lane row)) = fronts.Price
 
-  front_why : (fault : FrontFault) → front_at (from_start board) ≡ Err fault
-      → Why (front_verdict fault)
-  front_why (fronts.Malformed line) stop =
-      let fails = (fronts_refused.line shape_of board line).0 stop in
-      inl (fails.line, fails.before)
-  front_why fronts.Price stop = (fronts_refused.price (from_start board)).0 stop
-  front_why fronts.Winner stop = (fronts_refused.winner (from_start board)).0 stop
+fault_back : (fault : FrontFault) → fault_by (front_refusal fault) ≡ fault
+fault_back (fronts.Malformed line) = refl
+fault_back fronts.Price = refl
+fault_back fronts.Winner = refl
 
-  fault_why : (fault : Fault) → FailsBehind board challenge reply fault → Why (as_verdict fault)
-  fault_why (behind.Malformed part.Board line) fails = inr fails
-  fault_why (behind.Malformed part.Challenge line) fails = fails
-  fault_why (behind.Malformed part.Reply line) fails = fails
-  fault_why (behind.Malformed part.SecondChallenge line) fails = absurd fails.holds
-  fault_why (behind.Malformed part.SecondReply line) fails = absurd fails.holds
-  fault_why behind.Lanes fails = fails
-  fault_why (behind.Wire lane wire fault) fails = fails
-  fault_why (behind.Row lane row) fails = fails
+refusal_same : (one other : Refusal BoardRefusal)
+    → ◌≡◌ {A = Result (Opened PlacedHead × Rest) (Refusal BoardRefusal)} (Err one) (Err other)
+    → one ≡ other
+refusal_same one other same = cc
 
-  behind_why : (front : Front) (after : Rest) → front_at (from_start board) ≡ Ok (front, after)
-      → (r : Result (Unit {0}) Fault) → judged_behind front after ≡ r
-      → Why (verdict_by (in_board r))
-  behind_why front after read (Ok done) is =
-      let text = fronts_read.shown (from_start board) front after read in
+refused_by : (read : Result (Front × Rest) FrontFault) (fault : FrontFault)
+    → opened_past read ≡ Err (front_refusal fault) → read ≡ Err fault
+refused_by (Ok front) fault stop = cc
+refused_by (Err other) fault stop =
+    ap (λ f. Err f) (sym (fault_back other)
+    ∙ ap fault_by (refusal_same (front_refusal other) (front_refusal fault) stop)
+    ∙ fault_back fault)
+
+only_lines : (read : Result (Front × Rest) FrontFault) (fault : Fault)
+    → opened_past read ≡ Err (refusal.Fault fault)
+    → (line : ℕ) × (fault ≡ behind.Malformed part.Board line)
+only_lines (Ok front) fault stop = cc
+only_lines (Err (fronts.Malformed line)) fault stop =
+    (line, let same : fault ≡ behind.Malformed part.Board line = cc in same)
+only_lines (Err fronts.Price) fault stop = cc
+only_lines (Err fronts.Winner) fault stop = cc
+
+module _ (board : List ℕ) where
+  abbrev read : Result (Front × Rest) FrontFault
+  read = front_at (from_start board)
+
+  stop_of : (fault : FrontFault) → board_front_at (from_start board) ≡ Err (front_refusal fault)
+      → read ≡ Err fault
+  unfolding board_front_at
+  stop_of fault stop = refused_by read fault stop
+
+  stop_by : (fault : FrontFault) → read ≡ Err fault
+      → board_front_at (from_start board) ≡ Err (front_refusal fault)
+  unfolding board_front_at
+  stop_by fault stop = ap opened_past stop
+
+  opened_by : (front : Front) (after : Rest) → read ≡ Ok (front, after)
+      → board_front_at (from_start board) ≡ Ok (opened_board front, after)
+  unfolding board_front_at
+  opened_by front after is = ap opened_past is
+
+  shown_by : (r : Result (Front × Rest) FrontFault) → read ≡ r → (opened : Opened PlacedHead)
+      (after : Rest) → opened_past r ≡ Ok (opened, after) → OpenedFront board_form board
+  shown_by (Err fault) is opened after ok = cc
+  shown_by (Ok front) is opened after ok =
+      let text = fronts_read.shown (from_start board) front.0 front.1 is in
       record {
-        front = front;
+        front = front.0;
         right = text.0;
-        behind =
-            (accepted_behind (statement_of front) (statement_right front text.0) (front_text front)
-            board challenge reply
-            after text.1).0 is;
+        is = record { after = front.1; text = text.1; read = opened_by front.0 front.1 is };
       }
-  behind_why front after read (Err fault) is =
-      let text = fronts_read.shown (from_start board) front after read in
-      fault_why fault (record {
-        front = front;
-        has_front = record { right = text.0; begins = (after.left, text.1) };
-        holds = fault_holds (statement_of front) (statement_right front text.0) (front_text front)
-            board challenge reply
-            after text.1 (IsBoardLine board) (told board front after text.0 read) fault is;
-      })
 
-  abbrev verdict_after : Result (Front × Rest) FrontFault → BoardVerdict
-  verdict_after r = verdict_by
-      (◌>>=◌ (in_front r) (λ front. in_board (judged_behind front.0 front.1)))
+  shown : (opened : Opened PlacedHead) (after : Rest)
+      → board_front_at (from_start board) ≡ Ok (opened, after) → OpenedFront board_form board
+  unfolding board_front_at
+  shown opened after ok = shown_by read refl opened after ok
 
-  verdict_why : (r : Result (Front × Rest) FrontFault) → front_at (from_start board) ≡ r
-      → Why (verdict_after r)
-  verdict_why (Ok front) is = behind_why front.0 front.1 is (judged_behind front.0 front.1) refl
-  verdict_why (Err fault) is = front_why fault is
+  found : (front : Front) → IsFront front → BeginsWith board (front_text front)
+      → ReadFront board_form board front
+  found front right begins =
+      let is = fronts_read.found (from_start board) front begins.0 right begins.1 in
+      let after : Rest = record { taken = is.0; left = begins.0 } in
+      record { after = after; text = begins.1; read = opened_by front after is.1 }
 
-  pub verdict_holds : Why (verdict_of board challenge reply)
-  unfolding judged
-  verdict_holds = verdict_why (front_at (from_start board)) refl
+  refused : (reason : BoardRefusal)
+      → (board_front_at (from_start board) ≡ Err (refusal.Front reason)) ↔ BoardRefuses reason board
+  refused refuses.Price = (
+    λ stop. (fronts_refused.price (from_start board)).0 (stop_of fronts.Price stop),
+    λ fails. stop_by fronts.Price ((fronts_refused.price (from_start board)).1 fails),
+  )
+  refused refuses.Winner = (
+    λ stop. (fronts_refused.winner (from_start board)).0 (stop_of fronts.Winner stop),
+    λ fails. stop_by fronts.Winner ((fronts_refused.winner (from_start board)).1 fails),
+  )
 
-  -- ---- each verdict that holds is given
+  stops : (line : ℕ)
+      → (board_front_at (from_start board)
+      ≡ Err (refusal.Fault (behind.Malformed part.Board line)))
+      ↔ BoardStops board line
+  stops line = (
+    λ stop. let fails = (fronts_refused.line shape_of board line).0
+        (stop_of (fronts.Malformed line) stop) in (fails.line, fails.before),
+    λ says. stop_by (fronts.Malformed line)
+        ((fronts_refused.line shape_of board line).1
+        (record { line = says.0; before = says.1 })),
+  )
 
-  refused : (fault : FrontFault) → front_at (from_start board) ≡ Err fault
-      → verdict_of board challenge reply ≡ front_verdict fault
-  unfolding judged
-  refused fault stop = ap verdict_after stop
+  only : (fault : Fault) → board_front_at (from_start board) ≡ Err (refusal.Fault fault)
+      → (line : ℕ) × (fault ≡ behind.Malformed part.Board line)
+  unfolding board_front_at
+  only fault stop = only_lines read fault stop
 
-  given_behind : (front : Front) (has : HasFront board front) (r : Result (Unit {0}) Fault)
-      → ((after : Rest) → front_at (from_start board) ≡ Ok (front, after)
-      → board ≡ front_text front ++ after.left
-      → judged_behind front after ≡ r) → verdict_of board challenge reply ≡ verdict_by (in_board r)
-  unfolding judged
-  given_behind front has r is =
-      let found = fronts_read.found (from_start board) front has.begins.0 has.right has.begins.1 in
-      let after : Rest = record { taken = found.0; left = has.begins.0 } in
-      ap verdict_after found.1 ∙ ap (λ r. verdict_by (in_board r)) (is after found.1 has.begins.1)
+  -- the front of a board that was read
+  front_is : (front : Front) (is : ReadFront board_form board front)
+      → read ≡ Ok (front, is.after)
+  unfolding board_front_at
+  front_is front is = by_read read refl is.read
+    where
+      by_read : (r : Result (Front × Rest) FrontFault) → read ≡ r
+          → board_front_at (from_start board) ≡ Ok (opened_board front, is.after)
+          → read ≡ Ok (front, is.after)
+      by_read (Ok other) same ok =
+          let both : ◌≡◌ {A = Opened PlacedHead × Rest} (opened_board other.0, other.1)
+          (opened_board front, is.after) =
+          value_same _ _ (sym (ap opened_past same) ∙ ok) in
+          same ∙ ap (λ (b : Opened PlacedHead × Rest). Ok (board_front b.0, b.1)) both
+      by_read (Err fault) same ok = absurd (let none = sym (ap opened_past same) ∙ ok in cc)
 
-  accepted : Accepts board challenge reply → verdict_of board challenge reply ≡ Accepted
-  accepted accepts =
-      let has : HasFront board accepts.front =
-      record { right = accepts.right; begins = (_, accepts.behind.file_is.0) } in
-      given_behind accepts.front has (Ok tt)
-      (λ after read text. (accepted_behind (statement_of accepts.front)
-      (statement_right accepts.front accepts.right)
-      (front_text accepts.front) board challenge reply after text).1 accepts.behind)
+pub is_form : IsForm board_form
+is_form = record {
+  statement = statement_right;
+  one = λ front other same. ap board_front same;
+  shown = shown;
+  found = found;
+  refused = refused;
+  stops = stops;
+  only = only;
+  line = λ board front right is line. (
+    told board front is.after right (front_is board front is) line,
+    tells board front is.after right (front_is board front is) line,
+  );
+}
 
-  fails : (fault : Fault) → FailsBehind board challenge reply fault
-      → verdict_of board challenge reply ≡ as_verdict fault
-  fails fault why =
-      let front = why.front in
-      let right = why.has_front.right in
-      given_behind front why.has_front (Err fault)
-      (λ after read text. fault_given (statement_of front) (statement_right front right)
-      (front_text front) board
-      challenge reply after text (IsBoardLine board)
-      (told board front after right read) (tells board front after right read) fault why.holds)
+-- ---- the verdict
 
-  given : (verdict : BoardVerdict) → Why verdict → verdict_of board challenge reply ≡ verdict
-  given Accepted says = accepted says
-  given (Malformed part.Board line) (inl says) = refused (fronts.Malformed line)
-      ((fronts_refused.line shape_of board line).1 (record { line = says.0; before = says.1 }))
-  given (Malformed part.Board line) (inr says) = fails (behind.Malformed part.Board line) says
-  given (Malformed part.Challenge line) says = fails (behind.Malformed part.Challenge line) says
-  given (Malformed part.Reply line) says = fails (behind.Malformed part.Reply line) says
-  given (Malformed part.SecondChallenge line) says = absurd says
-  given (Malformed part.SecondReply line) says = absurd says
-  given Price says = refused fronts.Price ((fronts_refused.price (from_start board)).1 says)
-  given Winner says = refused fronts.Winner ((fronts_refused.winner (from_start board)).1 says)
-  given Lanes says = fails behind.Lanes says
-  given (Wire lane wire fault) says = fails (behind.Wire lane wire fault) says
-  given (Row lane row) says = fails (behind.Row lane row) says
+judged_back : (judged : Result (Unit {0}) (Refusal BoardRefusal))
+    → judged_of (verdict_by judged) ≡ judged
+judged_back (Ok done) = refl
+judged_back (Err (refusal.Front refuses.Price)) = refl
+judged_back (Err (refusal.Front refuses.Winner)) = refl
+judged_back (Err (refusal.Fault (behind.Malformed file line))) = refl
+judged_back (Err (refusal.Fault behind.Lanes)) = refl
+judged_back (Err (refusal.Fault (behind.Wire lane wire why))) = refl
+judged_back (Err (refusal.Fault (behind.Row lane row))) = refl
+
+verdict_back : (verdict : BoardVerdict) → verdict_by (judged_of verdict) ≡ verdict
+verdict_back Accepted = refl
+verdict_back (Malformed file line) = refl
+verdict_back Price = refl
+verdict_back Winner = refl
+verdict_back Lanes = refl
+verdict_back (Wire lane wire why) = refl
+verdict_back (Row lane row) = refl
+
+pub verdict_holds : (board challenge reply : List ℕ)
+    → VerdictHolds (verdict_of board challenge reply) board challenge reply
+verdict_holds board challenge reply =
+    subst (λ judged. JudgedHolds board_form judged board challenge reply)
+    (sym (judged_back (judged_in board_front_at board challenge reply)))
+    (judged_holds board_form is_form board challenge reply)
 
 pub verdicts_exact : VerdictsAreExact
 verdicts_exact verdict board challenge reply = (
   λ is. let S : BoardVerdict → Type 0 = λ v. VerdictHolds v board challenge reply in subst S is
       (verdict_holds board challenge reply),
-  given board challenge reply verdict,
+  λ holds. ap verdict_by
+      ((judged_exact board_form is_form board challenge reply (judged_of verdict)).1 holds)
+      ∙ verdict_back verdict,
 )
 
 pub accepted_exactly : AcceptedExactly

@@ -8,7 +8,8 @@ use Rattle.vk_vickrey.specs.Sales.{sale_at}
 use Rattle.vk_vickrey.specs.BoardPlans.{BoardNumbers, board_numbers, board_wire_count, board_row_count}
 use Rattle.vk_verifier.specs.declared.answers.BoardVerdict.TheVariants.{Accepted}
 use Rattle.vk_verifier.specs.Verdicts.{statement_of, verdict_of}
-use Rattle.vk_judge.specs.Acceptance.{AcceptsBehind}
+use Rattle.vk_judge.specs.FileForms.{Fronts}
+use Rattle.vk_judge.specs.FileForms as forms
 
 -- what the counts are told by. They are the same wherever the winner's seal stands, so the seat
 -- stands for its place
@@ -23,13 +24,14 @@ shape_of head = record {
   rows = board_row_count (head_numbers head);
 }
 
+-- a front of a board may stand by its price and winner
+abbrev pub board_fronts : Fronts Front
+board_fronts = record { IsRight = IsFront; statement = statement_of; text = front_text }
+
 -- the board has a front whose price and winner may stand, and behind it the reply is accepted for
 -- the challenge
-pub record Accepts (board_file challenge_file reply_file : List ℕ) : Type 0 where
-  pub front : Front
-  pub right : IsFront front
-  pub behind : AcceptsBehind (statement_of front) (front_text front) board_file challenge_file
-      reply_file
+abbrev pub Accepts : List ℕ → List ℕ → List ℕ → Type 0
+Accepts = forms.Accepts board_fronts
 
 -- the verdict is that there is no fault exactly where a reply is accepted
 abbrev pub AcceptedExactly : Type 0

@@ -1,7 +1,5 @@
 pub mod Verdicts
-pub mod TwoBoards
 pub mod Answers
-pub mod TwoLaw
 pub mod Acceptance
-pub mod TwoValues
 pub mod Refusals
+pub mod TwoBoards

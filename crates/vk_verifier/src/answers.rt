@@ -1,8 +1,8 @@
 // The verdict on a board.
 ghost use Rattle.std.specs.Prelude.{◌≡◌};
-ghost use Rattle.vk_verifier.specs.Verdicts.{as_verdict};
+ghost use Rattle.vk_verifier.specs.Verdicts.{as_verdict, refused_verdict, verdict_by};
 
-use vk_judge::{Fault, Finding, Part};
+use vk_judge::{Fault, Finding, Part, Refusal};
 use vk_wire::WireFault;
 
 /// The first fault of a board, a challenge and a reply, or that there is none.
@@ -35,6 +35,15 @@ pub enum BoardVerdict {
     },
 }
 
+/// Why a board is refused by what its front says.
+#[derive(Clone, Copy, Debug, PartialEq, Eq)]
+pub enum BoardRefusal {
+    /// The price may not stand beside the reserve, the width and the number of seals.
+    Price,
+    /// The board names a winner, and no seal has that seat.
+    Winner,
+}
+
 impl From<Fault> for BoardVerdict {
     ghost from_gives = { λ fault verdict. verdict ≡ as_verdict fault };
 
@@ -45,6 +54,28 @@ impl From<Fault> for BoardVerdict {
             Fault::Wire { lane, wire, fault } => BoardVerdict::Wire { lane, wire, fault },
             Fault::Row { lane, row } => BoardVerdict::Row { lane, row },
         }
+    }
+}
+
+impl From<Refusal<BoardRefusal>> for BoardVerdict {
+    ghost from_gives = { λ refusal verdict. verdict ≡ refused_verdict refusal };
+
+    fn from(refusal: Refusal<BoardRefusal>) -> BoardVerdict {
+        match refusal {
+            Refusal::Front(BoardRefusal::Price) => BoardVerdict::Price,
+            Refusal::Front(BoardRefusal::Winner) => BoardVerdict::Winner,
+            Refusal::Fault(fault) => BoardVerdict::from(fault),
+        }
+    }
+}
+
+/// The verdict by what judging came to.
+pub fn verdict_by(judged: Result<(), Refusal<BoardRefusal>>) -> BoardVerdict
+    ensures { result ≡ verdict_by judged }
+{
+    match judged {
+        Ok(()) => BoardVerdict::Accepted,
+        Err(refusal) => BoardVerdict::from(refusal),
     }
 }
 

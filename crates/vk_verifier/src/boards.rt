@@ -1,29 +1,34 @@
 // The verdict on a board, a challenge and a reply, as whole files.
-ghost use Rattle.std.specs.Prelude.{◌≡◌, ℕ, Result, Ok, IfSome, IfOk};
+ghost use Rattle.std.specs.Prelude.{◌≡◌, ℕ, Result, Ok, IfSome, IfOk, IsErrOf};
 ghost use Rattle.vk_io.specs.Faults.{Causes};
-ghost use Rattle.vk_lines.specs.Lines.{OnlyReads, Rest};
+ghost use Rattle.vk_lines.specs.Lines.{OnlyReads, Rest, rest_of};
 ghost use Rattle.vk_lines.specs.Gives.{Gives};
 ghost use Rattle.vk_board.specs.Fronts.{FrontFault, IsFront, fault_of};
-ghost use Rattle.vk_judge.specs.declared.answers.Fault.{Fault};
-ghost use Rattle.vk_verifier.specs.declared.answers.BoardVerdict.{BoardVerdict};
-ghost use Rattle.vk_judge.specs.Behind.{Judges};
-ghost use Rattle.vk_judge.specs.Parts.{behind_in_parts};
-ghost use Rattle.vk_judge.specs.Begun.{of_begun, unread_file};
-ghost use Rattle.vk_verifier.specs.Verdicts.{in_board, in_front, judged, plan_of, statement_of, verdict_by, verdict_on};
-ghost use Rattle.vk_verifier.specs.Answers.{board_answer, front_answer, verdict_answer};
+ghost use Rattle.vk_judge.specs.Behind.{Judges, and_rest};
+ghost use Rattle.vk_judge.specs.Begun.{unread_file};
+ghost use Rattle.vk_judge.specs.Wanting.{MemoryWasWanting};
+ghost use Rattle.vk_verifier.specs.Answers.{front_answer};
+ghost use Rattle.vk_verifier.specs.Verdicts.{IsBoard, board_front_at, in_front, opened_board, plan_of, verdict_on};
 
-use crate::answers::BoardVerdict;
+use crate::answers::{BoardRefusal, BoardVerdict, verdict_by};
 use std::alloc::Global;
-use vk_board::{Front, FrontErr, read_front};
-use vk_io::Shelf;
-use vk_judge::{Attempt, Fault, Halt, OneReply, Part, Statement, VErr, judge_behind};
-use vk_lines::ReadErr;
+use vk_board::{Front, FrontErr, Head, read_front};
+use vk_io::{OutsideErr, Shelf};
+use vk_judge::{Fault, Halt, OneReply, Opened, Part, Refusal, Statement, VErr, judge_file, known};
+use vk_lines::{Lines, ReadErr};
 use vk_plan::{Circuit, Plan};
 use vk_residue::NoMemory;
 use vk_vickrey::{BoardPlan, Sale};
 
-/// What was read of a board before its first lane. A fault of it is the verdict.
-pub fn in_front<X>(read: Result<X, FrontErr>) -> Result<X, Halt<BoardVerdict>>
+/// The head of a board, and the place of the winner's seal, from 1, where something is sold.
+#[derive(Clone, Copy, Debug)]
+pub struct PlacedHead {
+    pub head: Head,
+    pub position: Option<u32>,
+}
+
+/// What was read of a board before its first lane. A fault of it is a refusal.
+fn in_front<X>(read: Result<X, FrontErr>) -> Result<X, Halt<Refusal<BoardRefusal>>>
     ensures exact { result ≡ front_answer read }
     ensures judged { (rest : Rest) (expected : Result (X × Rest) FrontFault)
         → Gives fault_of (λ x. (x, rest)) read expected
@@ -36,31 +41,13 @@ pub fn in_front<X>(read: Result<X, FrontErr>) -> Result<X, Halt<BoardVerdict>>
     match read {
         Ok(value) => Ok(value),
         Err(FrontErr::Unread(ReadErr::Malformed { line })) => {
-            Err(Halt::Refused(BoardVerdict::Malformed {
-                part: Part::Board,
-                line,
-            }))
+            let part = Part::Board;
+            Err(Halt::Refused(Refusal::Fault(Fault::Malformed { part, line })))
         }
         Err(FrontErr::Unread(ReadErr::Failed)) => Err(Halt::Failed),
         Err(FrontErr::Unread(ReadErr::NoMemory)) => Err(Halt::NoMemory),
-        Err(FrontErr::Price) => Err(Halt::Refused(BoardVerdict::Price)),
-        Err(FrontErr::Winner) => Err(Halt::Refused(BoardVerdict::Winner)),
-    }
-}
-
-/// What was judged behind the front. A fault is the verdict.
-fn in_board<X>(judged: Result<X, Halt<Fault>>) -> Result<X, Halt<BoardVerdict>>
-    ensures exact { result ≡ board_answer judged }
-    ensures judged { (expected : Result X Fault) → Judges (λ x. x) judged expected
-        → Judges (λ x. x) result (in_board expected) }
-    ensures causes { (before : ℕ) (after : ℕ) → Causes Halt.Failed judged before after
-        → Causes Halt.Failed result before after }
-{
-    match judged {
-        Ok(value) => Ok(value),
-        Err(Halt::Refused(fault)) => Err(Halt::Refused(BoardVerdict::from(fault))),
-        Err(Halt::Failed) => Err(Halt::Failed),
-        Err(Halt::NoMemory) => Err(Halt::NoMemory),
+        Err(FrontErr::Price) => Err(Halt::Refused(Refusal::Front(BoardRefusal::Price))),
+        Err(FrontErr::Winner) => Err(Halt::Refused(Refusal::Front(BoardRefusal::Winner))),
     }
 }
 
@@ -81,65 +68,45 @@ fn plan_of(alloc: Global, front: &Front) -> Result<Plan, NoMemory>
     }
 }
 
-/// What the lanes of the board are to show.
+/// The board with this front: its head, and what its lanes are to show.
 #[tactic(auto, using(crate::proofs::Plans::statement_right))]
-pub fn statement_of(alloc: Global, front: Front) -> Result<Statement, NoMemory>
+fn opened_board(alloc: Global, front: Front) -> Result<Opened<PlacedHead>, NoMemory>
     requires { IsFront front }
-    ensures { IfOk result (λ statement. statement ≡ statement_of front) }
+    ensures value { IfOk result (λ opened. opened ≡ opened_board front) }
+    ensures right { IfOk result IsBoard }
 {
     let plan = plan_of(alloc, &front)?;
-    let Front { head, seals, .. } = front;
+    let Front {
+        head,
+        seals,
+        position,
+    } = front;
     let statement = Statement::of(alloc, head.auction, head.lanes, seals, plan)?;
-    Ok(statement)
+    let head = PlacedHead { head, position };
+    Ok(Opened { head, statement })
 }
 
-/// Makes the board's statement, and judges all that stands behind its front.
-fn judge_lanes<S: Shelf>(
+/// Reads a board before its first lane. It is refused where a line isn't what its place demands,
+/// and then for its price and its winner.
+#[tactic(auto, unfolding(crate::specs::Verdicts::board_front_at), using(vk_judge::specs::Wanting::memory_was_wanting))]
+pub fn open_board<S: Shelf>(
     alloc: Global,
     shelf: &mut S,
-    front: Front,
-    attempt: &mut Attempt,
-) -> Result<(), Halt<Fault>>
-    requires { IsFront front }
-    ensures modelled { IfSome (S.held shelf.old) (λ files. Judges (λ done. done) result
-        (of_begun (behind_in_parts (statement_of front)) attempt.old files)) }
-    ensures shelf { OnlyReads S.held S.Shelf.faults Halt.Failed result shelf.old shelf.new }
+    lines: &mut Lines,
+) -> Result<Result<Opened<PlacedHead>, Refusal<BoardRefusal>>, OutsideErr>
+    ensures modelled { IfSome (S.held shelf.old) (λ files. IfOk result (λ opened.
+        board_front_at (rest_of lines.old files) ≡ and_rest opened (rest_of lines.new files))) }
+    ensures right { IfOk result (λ opened. IfOk opened IsBoard) }
+    ensures wanting { IsErrOf result OutsideErr.NoMemory → MemoryWasWanting }
+    ensures shelf { OnlyReads S.held S.Shelf.faults OutsideErr.Failed result shelf.old shelf.new }
 {
-    let statement = statement_of(alloc, front)?;
-    judge_behind(alloc, shelf, &statement, attempt)?;
-    Ok(())
-}
-
-/// Judges the files, from their first lines to their ends.
-#[tactic(auto, using(vk_judge::proofs::Joined::behind_parts), unfolding(crate::specs::Verdicts::judged))]
-fn judge<S: Shelf>(
-    alloc: Global,
-    shelf: &mut S,
-    attempt: &mut Attempt,
-) -> Result<(), Halt<BoardVerdict>>
-    ensures modelled { IfSome (S.held shelf.old)
-        (λ files. Judges (λ done. done) result (of_begun judged attempt.old files)) }
-    ensures shelf { OnlyReads S.held S.Shelf.faults Halt.Failed result shelf.old shelf.new }
-{
-    let front = in_front(read_front(alloc, shelf, &mut attempt.pair.board))?;
-    let judged = judge_lanes(alloc, shelf, front, attempt);
-    let done = in_board(judged)?;
-    Ok(done)
-}
-
-/// The verdict that judging came to.
-fn verdict_in(judged: Result<(), Halt<BoardVerdict>>) -> Result<BoardVerdict, VErr>
-    ensures exact { result ≡ verdict_answer judged }
-    ensures modelled { (expected : Result Unit BoardVerdict) → Judges (λ done. done) judged expected
-        → Gives unread_file (λ verdict. verdict) result (Ok (verdict_by expected)) }
-    ensures causes { (before : ℕ) (after : ℕ) → Causes Halt.Failed judged before after
-        → Causes VErr.Failed result before after }
-{
-    match judged {
-        Ok(()) => Ok(BoardVerdict::Accepted),
-        Err(Halt::Refused(verdict)) => Ok(verdict),
-        Err(Halt::Failed) => Err(VErr::Failed),
-        Err(Halt::NoMemory) => Err(VErr::NoMemory),
+    let read = in_front(read_front(alloc, shelf, lines));
+    match known(read)? {
+        Err(refusal) => Ok(Err(refusal)),
+        Ok(front) => {
+            let opened = opened_board(alloc, front)?;
+            Ok(Ok(opened))
+        }
     }
 }
 
@@ -150,7 +117,7 @@ fn verdict_in(judged: Result<(), Halt<BoardVerdict>>) -> Result<BoardVerdict, VE
 ///
 /// Errs where a file is missing or longer than 2^30 bytes, and names the first that is; where the
 /// shelf fails; and for want of memory.
-#[tactic(auto, using(crate::proofs::Attempts::verdict_begun))]
+#[tactic(auto, using(crate::proofs::Named::verdict_begun))]
 pub fn verdict<S: Shelf>(
     alloc: Global,
     shelf: &mut S,
@@ -169,7 +136,7 @@ pub fn verdict<S: Shelf>(
         reply,
     };
     let mut attempt = names.begin(alloc, shelf)?;
-    let judged = judge(alloc, shelf, &mut attempt);
-    let verdict = verdict_in(judged)?;
-    Ok(verdict)
+    let opened = open_board(alloc, shelf, &mut attempt.pair.file)?;
+    let judged = judge_file(alloc, shelf, opened, &mut attempt)?;
+    Ok(verdict_by(judged))
 }
