@@ -8,7 +8,7 @@ use Rattle.vk_wire.specs.declared.wire.Shown.{Shown}
 use Rattle.vk_wire.specs.declared.wire.Shown.TheVariants.{Whole, Spent}
 use Rattle.vk_extractor.specs.FirstClash.{Agree, IsClash}
 use Rattle.vk_judge.specs.declared.stage.TwoLane.{TwoLane}
-use Rattle.vk_verifier.specs.TwoValues.{two_lane_in}
+use Rattle.vk_judge.specs.FileForms.{two_lane_in}
 use Rattle.vk_bids.specs.Headline.{AgreesAt, IsExtractionClash, IsFirstClashOf, LaneAgrees, TwoAccepted, differing_in}
 
 disagrees : (place : Place) (digests : WireCom) (zero one : Shown) (clash : TwoOpeningsSeen)

@@ -27,7 +27,6 @@ use Rattle.vk_board.specs.Values.{AreSeals}
 use Rattle.vk_board.specs.declared.board.SealLines.{SealLines}
 use Rattle.vk_board.specs.declared.front.Front.{Front}
 use Rattle.vk_extractor.specs.Confronting.{secret_com, secret_opening}
-use Rattle.vk_verifier.specs.TwoValues.{front_in}
 use Rattle.vk_judge.specs.Begun.{from_start}
 use Rattle.vk_bids.specs.declared.bids.LaneBids.{LaneBids}
 use Rattle.vk_bids.specs.declared.bids.OpenedBid.{OpenedBid}
@@ -41,7 +40,7 @@ use Rattle.vk_bids.specs.Headline.{IsFound, IsOf, TwoAccepted}
 use Rattle.vk_bids.specs.Outcome.{LaneShows}
 use Rattle.vk_bids.proofs.Halves.{halves_clash, halves_held, halves_sum, none_else, some_else}
 use Rattle.vk_bids.proofs.Confronted.{digests_are, index_within, opens_bid}
-use Rattle.vk_bids.proofs.Headlines.{accepted_are_extracted, only_accepted_are_extracted}
+use Rattle.vk_bids.proofs.Boards.{accepted_are_extracted, only_accepted_are_extracted}
 
 no_opening : Opening
 no_opening = record { key = []; value = 0 }
@@ -335,7 +334,7 @@ module _ (board first_challenge first_reply second_challenge second_reply : List
       )
 
   of_sealed : (secret : Secret) (index : ℕ) → IsSecret secret
-      → IsSealOf (front_in two.first) secret index → (extraction : Extraction) → IsOf two extraction
+      → IsSealOf (two.first.front) secret index → (extraction : Extraction) → IsOf two extraction
       → ClashOr two (λ found. HeldOrClash secret index found
       (confrontation_of extraction (Ok secret))) (confrontation_of extraction (Ok secret))
   of_sealed secret index is_secret seal (Refused second verdict) is = absurd is

@@ -1,99 +1,33 @@
--- The extraction of a board, from what the replies come to behind its front.
-use Rattle.std.proofs.Common.{◌≡◌, ℕ, All, List, [], Option, Some, None, IfSome, Result, Ok, Err, refl, sym, ap, subst, ◌∙◌}
-use Rattle.std.specs.Prelude.{option_map}
+-- What two replies to a board come to, from what they come to of a file.
+use Rattle.std.proofs.Common.{◌≡◌, ℕ, All, List, Option, Some, None, IfSome, refl, sym, ap, subst, ◌∙◌}
+use Rattle.std.specs.Prelude.{IsSomeAnd}
 use Rattle.std.proofs.lemmas.List.Elements.{All-weaker}
-use Rattle.vk_residue.specs.Steps.{◌>>=◌}
-use Rattle.vk_io.specs.Files.{Files}
-use Rattle.vk_lines.specs.Gives.{Gives}
-use Rattle.vk_commit.specs.Commitment.{TwoOpeningsSeen}
 use Rattle.vk_board.specs.declared.front.Front.{Front}
 use Rattle.vk_board.specs.Fronts.{IsFront}
-use Rattle.vk_verifier.specs.declared.answers.BoardVerdict.{BoardVerdict}
-use Rattle.vk_judge.specs.declared.answers.Fault.{Fault}
-use Rattle.vk_judge.specs.declared.answers.VErr.{VErr}
-use Rattle.vk_judge.specs.declared.answers.VErr.TheVariants.{Missing, TooLong, Failed, NoMemory}
-use Rattle.vk_judge.specs.declared.stage.Base.{Base}
-use Rattle.vk_judge.specs.declared.stage.Finding.{Finding}
-use Rattle.vk_judge.specs.declared.stage.Finding.TheVariants as ends
-use Rattle.vk_judge.specs.declared.stage.TwoLane.{TwoLane}
+use Rattle.vk_judge.specs.declared.opened.Opened.{Opened}
+use Rattle.vk_judge.specs.Opened.{FileBase, opened_in}
 use Rattle.vk_judge.specs.Statement.{StatementValue}
-use Rattle.vk_judge.specs.Begun.{unread_file}
-use Rattle.vk_verifier.specs.Verdicts.{statement_of}
-use Rattle.vk_judge.specs.Two.{Ahead}
-use Rattle.vk_verifier.specs.TwoBoards.{BoardBase, as_ahead, as_two, base_on, two_on, with_front}
-use Rattle.vk_judge.proofs.Steps.{bind_found}
+use Rattle.vk_verifier.specs.declared.answers.BoardRefusal.{BoardRefusal}
+use Rattle.vk_verifier.specs.declared.boards.PlacedHead.{PlacedHead}
+use Rattle.vk_verifier.specs.Refusals.{board_form}
+use Rattle.vk_verifier.specs.TwoBoards.{IsOfBoard}
+use Rattle.vk_verifier.specs.Verdicts.{IsBoard, board_front, board_front_at, placed_head, statement_of}
+use Rattle.vk_verifier.proofs.Verdicts.{is_form}
 use Rattle.vk_bids.specs.declared.bids.LaneBids.{LaneBids}
 use Rattle.vk_bids.specs.declared.extraction.Extraction.TheVariants.{Refused, Same, Clash, Bids}
-use Rattle.vk_bids.specs.declared.lane_extraction.OpenedLanes.{OpenedLanes}
-use Rattle.vk_bids.specs.Extraction.{AreOfFront, Extraction, extraction_of, extraction_on, extraction_with, shown_on}
-use Rattle.vk_bids.specs.Extractions.{found_by, gathered_after, given_by}
-use Rattle.vk_bids.specs.Gathering.{gathered_from}
-use Rattle.vk_bids.specs.LaneExtraction.{AreOfBase, LaneExtraction, OpensLanes, lane_extraction, opened_of}
+use Rattle.vk_bids.specs.Extraction.{AreOfBoard, Extraction, Shows, as_extraction, extraction_in}
+use Rattle.vk_bids.specs.FileExtraction.{FileExtraction, OpensBase, OpensValuesOf, file_extraction_in, file_of}
+use Rattle.vk_bids.specs.FileHeadline.{IsOfFile}
+use Rattle.vk_bids.specs.Headline.{AcceptedAreExtracted, IsFound, IsOf, OnlyAcceptedAreExtracted, SameIsFound, TwoAccepted}
 use Rattle.vk_bids.specs.Opening.{LaneOpens}
 use Rattle.vk_bids.specs.Outcome.{LaneShows}
+use Rattle.vk_bids.proofs.FileHeadline.{accepted_open, only_accepted_open_file, same_is_found_of_file}
 use Rattle.vk_bids.proofs.Showing.{opens_shows}
 
--- ---- the front
-
--- the front of the statement that was read
-abbrev with_its_front : (StatementValue → Front) → Option Base → Option BoardBase
-with_its_front front base = option_map (λ base. with_front (front base.statement) base) base
-
-opened_shown : (front : StatementValue → Front) (s : StatementValue)
-    (gathered : Result (List LaneBids) TwoOpeningsSeen)
-    → given_by (shown_on (front s)) gathered
-    ≡ extraction_with front (given_by (opened_of s) gathered)
-opened_shown front s (Ok lanes) = refl
-opened_shown front s (Err two) = refl
-
-by_finding : (front : StatementValue → Front) (base : Option Base) (lanes : List TwoLane)
-    (finding : Finding Fault)
-    → IfSome base (λ base. base.statement ≡ statement_of (front base.statement))
-    → found_by (λ (base : BoardBase). shown_on base.front) (with_its_front front base)
-    (as_two finding) (gathered_after (λ (base : BoardBase). statement_of base.front)
-    (with_its_front front base) lanes)
-    ≡ extraction_with front (found_by (λ (base : Base). opened_of base.statement) base finding
-    (gathered_after (λ (base : Base). base.statement) base lanes))
-by_finding front base lanes (ends.Refused second fault) is = refl
-by_finding front base lanes ends.Same is = refl
-by_finding front None lanes ends.Ready is = refl
-by_finding front (Some base) lanes ends.Ready is =
-    ap (λ s. given_by (shown_on (front base.statement)) (gathered_from s (Ok []) 1 lanes)) (sym is)
-    ∙ opened_shown front base.statement (gathered_from base.statement (Ok []) 1 lanes)
-
--- where the statement is that of the front, the extraction of the board is what the replies come to
--- behind it
-pub board_extraction : (front : StatementValue → Front) (base : Option Base) (ahead : Ahead Fault)
-    → IfSome base (λ base. base.statement ≡ statement_of (front base.statement))
-    → extraction_of (with_its_front front base) (as_ahead ahead)
-    ≡ extraction_with front (lane_extraction base ahead)
-board_extraction front base ahead is = by_finding front base ahead.lanes ahead.finding is
-
--- the front of the statement that was read may stand, and its lanes are those that were opened
-abbrev pub StandsBefore : (StatementValue → Front) → Option Base → Type 0
-StandsBefore front base =
-    IfSome base (λ base. IsFront (front base.statement)
-    × (base.statement ≡ statement_of (front base.statement)))
-
-pub of_front : (front : StatementValue → Front) (base : Option Base) (found : LaneExtraction)
-    → StandsBefore front base
-    → AreOfBase base found
-    → AreOfFront front found
-of_front front base (Refused second fault) stands are = tt
-of_front front base Same stands are = tt
-of_front front base (Clash two) stands are = tt
-of_front front None (Bids opened) stands are = absurd are
-of_front front (Some base) (Bids opened) stands are =
-    let P : StatementValue → Type 0 = λ s. IsFront (front s) × (s ≡ statement_of (front s)) in
-    subst P are stands
-
-pub same_statement : (front : StatementValue → Front) (base : Option Base) → StandsBefore front base
-    → IfSome base (λ base. base.statement ≡ statement_of (front base.statement))
-same_statement front None stands = tt
-same_statement front (Some base) stands = stands.1
+-- ---- whatever the files are
 
 -- the lanes of a board show its sale
-pub lanes_show : (front : Front) (s : StatementValue) (lanes : List LaneBids) → IsFront front
+lanes_show : (front : Front) (s : StatementValue) (lanes : List LaneBids) → IsFront front
     → s ≡ statement_of front
     → All (LaneOpens s) lanes
     → All (LaneShows front) lanes
@@ -103,74 +37,91 @@ lanes_show front s lanes is same opens =
     (λ lane. opens_shows front lane.number lane.bids is) lanes
     (subst P same opens)
 
-pub opened_show : (front : StatementValue → Front) (made : Front) (found : LaneExtraction)
-    (opened : OpenedLanes)
-    → found ≡ Bids opened
-    → made ≡ front opened.statement → OpensLanes found → AreOfFront front found
-    → IsFront made × All (LaneShows made) opened.lanes
-opened_show front made found opened is same opens are =
-    let F : LaneExtraction → Type 0 = λ found. AreOfFront front found in
-    let P : Front → Type 0 = λ made. IsFront made × All (LaneShows made) opened.lanes in
-    let of_it = subst F is are in
-    let open_values = subst OpensLanes is opens in
-    subst P (sym same) (
-      of_it.0,
-      lanes_show (front opened.statement) opened.statement opened.lanes of_it.0 of_it.1
-          open_values.1,
-    )
+are_of_board : (base : Option (FileBase PlacedHead)) (found : FileExtraction PlacedHead BoardRefusal)
+    → IsOfBoard base → OpensBase base found → AreOfBoard found
+are_of_board base (Refused second refusal) right opens = tt
+are_of_board base Same right opens = tt
+are_of_board base (Clash two) right opens = tt
+are_of_board None (Bids found) right opens = absurd opens.such
+are_of_board (Some known) (Bids found) right opens = record {
+  such = subst IsBoard opens.such right;
+  statement = opens.statement;
+  lanes = opens.lanes;
+}
 
--- ---- the files
+shown : (found : FileExtraction PlacedHead BoardRefusal) → AreOfBoard found
+    → Shows (as_extraction found)
+shown (Refused second refusal) are = tt
+shown Same are = tt
+shown (Clash two) are = tt
+shown (Bids found) are = (
+  are.such.front,
+  lanes_show (board_front (file_of found)) found.opened.statement found.opened.lanes are.such.front
+      are.such.is are.lanes,
+)
 
--- of named files
-pub extracted : (files : Files)
-    (board first_challenge first_reply second_challenge second_reply : List ℕ)
-    (base : Option BoardBase) (ahead : Ahead BoardVerdict) (extraction : Extraction)
-    → two_on files board first_challenge first_reply second_challenge second_reply ≡ Ok ahead
-    → base_on files board first_challenge first_reply second_challenge second_reply ≡ Ok base
-    → extraction_of base ahead ≡ extraction
-    → extraction_on files board first_challenge first_reply second_challenge second_reply
-    ≡ Ok extraction
-unfolding extraction_on
-extracted files board first_challenge first_reply second_challenge second_reply base ahead
-    extraction ahead_is base_is is =
-    let bases = base_on files board first_challenge first_reply second_challenge second_reply in
-    bind_found (two_on files board first_challenge first_reply second_challenge second_reply)
-    (λ ahead. bases >>= λ base. Ok (extraction_of base ahead)) ahead ahead_is
-    ∙ (bind_found bases (λ base. Ok (extraction_of base ahead)) base base_is ∙ ap (λ e. Ok e) is)
+pub board_shows : (base : Option (FileBase PlacedHead))
+    (found : FileExtraction PlacedHead BoardRefusal) (extraction : Extraction) → IsOfBoard base
+    → OpensBase base found → extraction ≡ as_extraction found → Shows extraction
+board_shows base found extraction right opens is =
+    subst Shows (sym is) (shown found (are_of_board base found right opens))
 
-not_extracted : (files : Files)
-    (board first_challenge first_reply second_challenge second_reply : List ℕ) (refusal : VErr)
-    → two_on files board first_challenge first_reply second_challenge second_reply ≡ Err refusal
-    → extraction_on files board first_challenge first_reply second_challenge second_reply
-    ≡ Err refusal
-unfolding extraction_on
-not_extracted files board first_challenge first_reply second_challenge second_reply refusal is =
-    ap (λ ahead. ahead >>= λ ahead. base_on files board first_challenge first_reply second_challenge
-    second_reply >>= λ base. Ok (extraction_of base ahead)) is
+-- ---- accepted replies
 
--- a checker that was begun, or a file of it that is missing or too long
-pub begun : {T : Type 0} (base : T → Option BoardBase) (ahead : T → Ahead BoardVerdict)
-    (files : Files) (board first_challenge first_reply second_challenge second_reply : List ℕ)
-    (answer : Result T VErr)
-    → Gives unread_file ahead answer
-    (two_on files board first_challenge first_reply second_challenge second_reply)
-    → Gives unread_file base answer
-    (base_on files board first_challenge first_reply second_challenge second_reply)
-    → Gives unread_file (λ checker. extraction_of (base checker) (ahead checker)) answer
-    (extraction_on files board first_challenge first_reply second_challenge second_reply)
-begun base ahead files board first_challenge first_reply second_challenge second_reply (Ok checker)
-    ahead_is base_is =
-    extracted files board first_challenge first_reply second_challenge second_reply (base checker)
-    (ahead checker) (extraction_of (base checker) (ahead checker)) ahead_is base_is refl
-begun base ahead files board first_challenge first_reply second_challenge second_reply
-    (Err (Missing file)) ahead_is base_is =
-    not_extracted files board first_challenge first_reply second_challenge second_reply
-    (Missing file) ahead_is
-begun base ahead files board first_challenge first_reply second_challenge second_reply
-    (Err (TooLong file)) ahead_is base_is =
-    not_extracted files board first_challenge first_reply second_challenge second_reply
-    (TooLong file) ahead_is
-begun base ahead files board first_challenge first_reply second_challenge second_reply (Err Failed)
-    ahead_is base_is = tt
-begun base ahead files board first_challenge first_reply second_challenge second_reply
-    (Err NoMemory) ahead_is base_is = tt
+module _ {board first_challenge first_reply second_challenge second_reply : List ℕ}
+    (two : TwoAccepted board first_challenge first_reply second_challenge second_reply) where
+  is_of : (found : FileExtraction PlacedHead BoardRefusal) → IsOfFile board_form two found
+      → IsOf two (as_extraction found)
+  is_of (Bids found) is =
+      let front = two.first.front in
+      let F : PlacedHead → StatementValue → Front =
+      λ head s. board_front (record { head = head; statement = s }) in
+      record {
+        front = ap (λ head. F head found.opened.statement) is.head
+            ∙ ap (F (placed_head front)) is.opened.statement;
+        numbers = is.opened.numbers;
+        shown = is.opened.shown;
+        outcomes = lanes_show front (statement_of front) found.opened.lanes two.first.right refl
+            is.opened.opens;
+        agree = is.opened.agree;
+      }
+  is_of (Clash clash) is = is
+  is_of Same is = absurd is
+  is_of (Refused of_second refusal) is = absurd is
+
+pub accepted_are_extracted : AcceptedAreExtracted
+accepted_are_extracted board first_challenge first_reply second_challenge second_reply two =
+    is_of two
+    (file_extraction_in board_front_at board first_challenge first_reply second_challenge
+    second_reply)
+    (accepted_open board_form is_form board first_challenge first_reply second_challenge
+    second_reply two)
+
+is_found : (found : FileExtraction PlacedHead BoardRefusal) → IsFound (as_extraction found)
+    → IsFound found
+is_found (Bids found) is = is
+is_found (Clash clash) is = is
+is_found Same is = is
+is_found (Refused of_second refusal) is = is
+
+pub only_accepted_are_extracted : OnlyAcceptedAreExtracted
+only_accepted_are_extracted board first_challenge first_reply second_challenge second_reply found =
+    only_accepted_open_file board_form is_form board first_challenge first_reply second_challenge
+    second_reply
+    (is_found (file_extraction_in board_front_at board first_challenge first_reply second_challenge
+    second_reply) found)
+
+is_same : (found : FileExtraction PlacedHead BoardRefusal) → as_extraction found ≡ Same
+    → found ≡ Same
+is_same (Bids found) same = cc
+is_same (Clash clash) same = cc
+is_same Same same = refl
+is_same (Refused of_second refusal) same = cc
+
+pub same_is_found : SameIsFound
+same_is_found board first_challenge first_reply second_challenge second_reply =
+    let found = file_extraction_in board_front_at board first_challenge first_reply
+    second_challenge second_reply in
+    let exactly = same_is_found_of_file board_form is_form board first_challenge first_reply
+    second_challenge second_reply in
+    (λ same. exactly.0 (is_same found same), λ both. ap as_extraction (exactly.1 both))

@@ -14,8 +14,9 @@ use Rattle.vk_bids.specs.declared.confrontation.Confrontation.{Confrontation}
 use Rattle.vk_bids.specs.Binding.{ConfrontationOf, FilesAreConfronted, confrontation_of_held}
 use Rattle.vk_bids.specs.Confrontation.{confrontation_of, confrontation_on, of_extraction, secret_begun, secret_in}
 use Rattle.vk_bids.specs.Extraction.{Extraction, extraction_on}
-use Rattle.vk_bids.specs.Headline.{HeldFiles, IsHeldFile, extraction_of_held}
-use Rattle.vk_bids.proofs.Begun.{BegunThen, begun_test, not_long}
+use Rattle.vk_judge.specs.HeldFiles.{HeldFiles, IsHeldFile}
+use Rattle.vk_bids.specs.Headline.{extraction_of_held}
+use Rattle.vk_judge.proofs.HeldFiles.{BegunThen, begun_test, not_long}
 use Rattle.vk_bids.proofs.ConfrontedFiles.{confronted}
 use Rattle.vk_bids.proofs.Named.{files_are_extracted}
 

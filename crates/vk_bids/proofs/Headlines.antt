@@ -1,5 +1,5 @@
--- Two replies that are accepted for different challenges give values for which the circuit holds,
--- on a board those of the published sale; or a clash. Only such replies do.
+-- Two replies that are accepted for different challenges behind a front give values for which the
+-- circuit holds; or a clash. Only such replies do.
 use Rattle.std.proofs.Common.{◌≡◌, ◌≢◌, ℕ, suc, ◌+◌, ◌-◌, ◌<◌, ◌≤◌, ◌&&◌, Bool, true, false, if◌then◌else◌, All, List, [], ◌∷◌, length, map, Option, Some, Result, Ok, Err, refl, sym, ap, subst, ◌∙◌, arith}
 use Rattle.std.specs.Prelude.{slice_get, slice_index_or}
 use Rattle.std.proofs.lemmas.List.Elements.{All-weaker}
@@ -11,8 +11,6 @@ use Rattle.vk_extractor.specs.Clash.{clash_of_lane}
 use Rattle.vk_extractor.specs.FirstClash.{IsFirstClash}
 use Rattle.vk_extractor.proofs.FirstClash.{all_agree, clash_found, first_of_clashes}
 use Rattle.vk_board.specs.declared.board.LaneLines.{LaneLines}
-use Rattle.vk_board.specs.declared.front.Front.{Front}
-use Rattle.vk_verifier.specs.declared.answers.BoardVerdict.{BoardVerdict}
 use Rattle.vk_judge.specs.declared.answers.Fault.{Fault}
 use Rattle.vk_judge.specs.declared.stage.Base.{Base}
 use Rattle.vk_judge.specs.declared.stage.Finding.{Finding}
@@ -21,26 +19,17 @@ use Rattle.vk_judge.specs.declared.stage.TwoLane.{TwoLane}
 use Rattle.vk_judge.specs.Statement.{StatementValue, IsStatement}
 use Rattle.vk_judge.specs.Behind.{case_of}
 use Rattle.vk_judge.specs.Begun.{from_start}
-use Rattle.vk_verifier.specs.Verdicts.{statement_of}
 use Rattle.vk_judge.specs.Acceptance.{bit_of, no_lines}
-use Rattle.vk_verifier.specs.Acceptance.{Accepts}
 use Rattle.vk_judge.specs.Two.{BothAreAccepted, accepted_of, ahead_behind, base_behind, base_in, same_bit, same_bits}
-use Rattle.vk_verifier.specs.TwoBoards.{BoardBase}
-use Rattle.vk_verifier.specs.TwoLaw.{ahead_in}
 use Rattle.vk_judge.specs.TwoValues.{base_with, shown_behind}
-use Rattle.vk_verifier.specs.TwoValues.{AreOfOneBoard, begun_in, bits_of, board_with, front_in, two_lane_in}
-use Rattle.vk_verifier.proofs.Plans.{statement_right}
 use Rattle.vk_judge.proofs.TwoValues.{accepted_behind_give, only_accepted_behind}
-use Rattle.vk_verifier.proofs.TwoValues.{accepted_give, only_accepted_give}
 use Rattle.vk_bids.specs.declared.bids.LaneBids.{LaneBids}
-use Rattle.vk_bids.specs.declared.extraction.Extraction.TheVariants.{Same}
-use Rattle.vk_bids.specs.Extraction.{Extraction, extraction_in, shown_on}
 use Rattle.vk_bids.specs.Extractions.{found_by, gathered_after, given_by}
 use Rattle.vk_bids.specs.Gathering.{gathered_from, lane_shown}
-use Rattle.vk_bids.specs.Headline.{AcceptedAreExtracted, AcceptedBehindOpen, AgreesAt, IsFirstClashOf, IsFound, IsOf, IsOfBehind, OnlyAcceptedAreExtracted, OnlyAcceptedOpen, SameIsFound, TwoAccepted, TwoAcceptedBehind, differing, differing_behind, differing_in, lane_of}
+use Rattle.vk_bids.specs.Extractions.{IsFound}
+use Rattle.vk_bids.specs.OpenedBehind.{AcceptedBehindOpen, AgreesAt, IsFirstClashOf, IsOfBehind, OnlyAcceptedOpen, TwoAcceptedBehind, differing, differing_behind, lane_of}
 use Rattle.vk_bids.specs.LaneExtraction.{opened_of}
 use Rattle.vk_bids.specs.Opening.{LaneOpens}
-use Rattle.vk_bids.proofs.Boards.{lanes_show}
 use Rattle.vk_bids.proofs.Gathered.{AddsBids, AddsLanes, Agrees, AreGiven, ClashesIn, IsLane, IsShown, gathered_adds, number_of}
 
 -- ---- challenges
@@ -56,7 +45,7 @@ both_true true true both = (refl, refl)
 both_true true false both = cc
 both_true false other both = cc
 
-same_bits_are : (first second : List Bool) → same_bits first second ≡ true → first ≡ second
+pub same_bits_are : (first second : List Bool) → same_bits first second ≡ true → first ≡ second
 same_bits_are [] [] same = refl
 same_bits_are [] (bit ∷ second) same = cc
 same_bits_are (bit ∷ first) [] same = cc
@@ -71,10 +60,10 @@ same_itself (true ∷ bits) = same_itself bits
 same_itself (false ∷ bits) = same_itself bits
 
 -- what is found, where the bits are the same or aren't
-abbrev of_test : {V : Type 0} → Bool → Finding V
+abbrev pub of_test : {V : Type 0} → Bool → Finding V
 of_test test = if test then ends.Same else ends.Ready
 
-accepted_same : {V : Type 0} (first second : List Bool) → first ≡ second
+pub accepted_same : {V : Type 0} (first second : List Bool) → first ≡ second
     → accepted_of {V = V} first second ≡ ends.Same
 accepted_same {V} first second same = ap (λ bits. accepted_of {V = V} first bits) (sym same)
     ∙ ap (of_test {V = V}) (same_itself first)
@@ -90,7 +79,7 @@ accepted_differ : {V : Type 0} (first second : List Bool) → first ≢ second
 accepted_differ {V} first second differ =
     by_test {V = V} first second (same_bits first second) refl differ
 
-bits_differ : {V : Type 0} (first second : List Bool)
+pub bits_differ : {V : Type 0} (first second : List Bool)
     → accepted_of {V = V} first second ≡ ends.Ready → first ≢ second
 bits_differ {V} first second ready same = let alike : accepted_of {V = V} first second ≡ ends.Same =
     accepted_same {V = V} first second same in cc
@@ -272,7 +261,7 @@ accepted_behind_open s is front file first_challenge first_reply second_challeng
     subst Q (sym give.1) (subst P (sym ready) opened)
 
 -- bids or a clash are found only of replies that are ready
-found_ready : {V B X : Type 0} (kept : B → List LaneBids → X) (base : Option B)
+pub found_ready : {V B X : Type 0} (kept : B → List LaneBids → X) (base : Option B)
     (finding : Finding V) (gathered : Result (List LaneBids) TwoOpeningsSeen)
     → IsFound (found_by kept base finding gathered) → finding ≡ ends.Ready
 found_ready kept base (ends.Refused second refusal) gathered found = absurd found
@@ -300,159 +289,3 @@ only_accepted_open s is front file first_challenge first_reply second_challenge 
       differ = bits_differ {V = Fault} both.0.challenge.bits both.1.challenge.bits
           (sym give.2.finding ∙ ready);
     }
-
--- ---- on a board
-
--- the lane of that number, on the first reply's board
-lane_in : {board first_challenge first_reply second_challenge second_reply : List ℕ}
-    (first : Accepts board first_challenge first_reply)
-    (second : Accepts board second_challenge second_reply) → AreOfOneBoard first second
-    → (number : ℕ) → 1 ≤ number → number ≤ first.front.head.lanes
-    → IsLane (statement_of first.front) number (two_lane_in first second number)
-lane_in first second one number some last =
-    let count : second.front.head.lanes ≡ first.front.head.lanes =
-    ap (λ (f : Front). f.head.lanes) one.one_front in
-    let P : Front → Type 0 = λ front. IsAccepted (statement_of front).plan
-    (case_of (statement_of front) number
-    (slice_index_or second.behind.lines (number - 1) no_lines))
-    (bit_of second.behind.challenge number) (shown_behind second.behind number) in
-    let Q : List LaneLines → Type 0 =
-    λ lines. IsAccepted (statement_of first.front).plan
-    (case_of (statement_of first.front) number (slice_index_or lines (number - 1) no_lines))
-    (bit_of second.behind.challenge number) (shown_behind second.behind number) in
-    record {
-      case = (slice_index_or first.behind.lines (number - 1) no_lines, refl);
-      first = first.behind.lanes number some last;
-      second = subst Q one.one_lines
-          (subst P one.one_front (second.behind.lanes number some (omega (arith, count, last))));
-    }
-
-shown_is : {board first_challenge first_reply second_challenge second_reply : List ℕ}
-    (two : TwoAccepted board first_challenge first_reply second_challenge second_reply)
-    (all : Result (List LaneBids) TwoOpeningsSeen)
-    → AddsLanes (statement_of two.first.front) (two_lane_in two.first two.second) []
-    (differing_in two) all
-    → IsOf two (given_by (shown_on two.first.front) all)
-shown_is two (Ok found) adds =
-    let front = front_in two.first in
-    let s = statement_of front in
-    let all = all_bids s (two_lane_in two.first two.second) (differing_in two) found adds in
-    record {
-      front = refl;
-      numbers = all.numbered;
-      shown = all.shown;
-      outcomes = lanes_show front s found two.first.right refl all.each;
-      agree = all.agree;
-    }
-shown_is two (Err clash) adds =
-    clash_is (statement_of two.first.front) (two_lane_in two.first two.second) (differing_in two)
-    clash adds
-
-pub accepted_are_extracted : AcceptedAreExtracted
-accepted_are_extracted board first_challenge first_reply second_challenge second_reply two =
-    let give = accepted_give board first_challenge first_reply second_challenge second_reply
-    two.first two.second in
-    let ahead = ahead_in board first_challenge first_reply second_challenge second_reply in
-    let base = board_with two.first two.second in
-    let s = statement_of two.first.front in
-    let count : two.second.front.head.lanes ≡ two.first.front.head.lanes =
-    ap (λ (f : Front). f.head.lanes) give.0.one_front in
-    let shown = shown_is two (gathered_from s (Ok []) 1 ahead.lanes)
-    (lanes_add s (two_lane_in two.first two.second) (bits_of two.first) (bits_of two.second)
-    ahead.lanes (statement_right two.first.front two.first.right) (record {
-      one_each = give.2.one_each;
-      first_each = two.first.behind.one_bit_each;
-      second_each = two.second.behind.one_bit_each ∙ count;
-      each = give.2.each;
-      first_bits = bit_at (bits_of two.first);
-      second_bits = bit_at (bits_of two.second);
-      right = lane_in two.first two.second give.0;
-    })) in
-    let ready : ahead.finding ≡ ends.Ready =
-    give.2.finding ∙ accepted_differ {V = BoardVerdict} (bits_of two.first) (bits_of two.second)
-    two.differ in
-    let P : Finding BoardVerdict
-    → Type 0 = λ finding. IsOf two
-    (found_by (λ (base : BoardBase). shown_on base.front) (Some base) finding
-    (gathered_after (λ (base : BoardBase). statement_of base.front) (Some base) ahead.lanes)) in
-    let Q : Option BoardBase → Type 0 =
-    λ base. IsOf two (found_by (λ (base : BoardBase). shown_on base.front) base ahead.finding
-    (gathered_after (λ (base : BoardBase). statement_of base.front) base ahead.lanes)) in
-    subst Q (sym give.1) (subst P (sym ready) shown)
-
--- ---- only accepted replies
-
-same_accepted : (base : Option BoardBase) (finding : Finding BoardVerdict)
-    (gathered : Result (List LaneBids) TwoOpeningsSeen)
-    → found_by (λ (base : BoardBase). shown_on base.front) base finding gathered ≡ Same
-    → BothAreAccepted finding
-same_accepted base (ends.Refused second verdict) gathered same = absurd (cc)
-same_accepted base ends.Same gathered same = tt
-same_accepted base ends.Ready gathered same = tt
-
-pub only_accepted_are_extracted : OnlyAcceptedAreExtracted
-only_accepted_are_extracted board first_challenge first_reply second_challenge second_reply found =
-    let ahead = ahead_in board first_challenge first_reply second_challenge second_reply in
-    let base = begun_in board first_challenge first_reply second_challenge second_reply in
-    let ready : ahead.finding ≡ ends.Ready =
-    found_ready (λ (base : BoardBase). shown_on base.front) base ahead.finding
-    (gathered_after (λ (base : BoardBase). statement_of base.front) base ahead.lanes) found in
-    let A : Finding BoardVerdict → Type 0 = λ finding. BothAreAccepted finding in
-    let both = only_accepted_give board first_challenge first_reply second_challenge second_reply
-    (subst A (sym ready) tt) in
-    let give = accepted_give board first_challenge first_reply second_challenge second_reply both.0
-    both.1 in
-    record {
-      first = both.0;
-      second = both.1;
-      differ = bits_differ {V = BoardVerdict} (bits_of both.0) (bits_of both.1)
-          (sym give.2.finding ∙ ready);
-    }
-
--- where the extraction is that the challenges are the same, they aren't different
-not_different : {board first_challenge first_reply second_challenge second_reply : List ℕ}
-    (two : TwoAccepted board first_challenge first_reply second_challenge second_reply)
-    (extraction : Extraction) → extraction ≡ Same → ¬ IsOf two extraction
-not_different two extraction same is = subst (λ (e : Extraction). IsOf two e) same is
-
-by_bits : {board first_challenge first_reply second_challenge second_reply : List ℕ}
-    (first : Accepts board first_challenge first_reply)
-    (second : Accepts board second_challenge second_reply)
-    (test : Bool) → same_bits (bits_of first) (bits_of second) ≡ test
-    → extraction_in board first_challenge first_reply second_challenge second_reply ≡ Same
-    → bits_of first ≡ bits_of second
-by_bits first second true is same = same_bits_are (bits_of first) (bits_of second) is
-by_bits {board} {first_challenge} {first_reply} {second_challenge} {second_reply} first second false
-    is same =
-    let ready : accepted_of {V = BoardVerdict} (bits_of first) (bits_of second) ≡ ends.Ready =
-    ap (of_test {V = BoardVerdict}) is in
-    let two : TwoAccepted board first_challenge first_reply second_challenge second_reply =
-    record {
-      first = first;
-      second = second;
-      differ = bits_differ {V = BoardVerdict} (bits_of first) (bits_of second) ready;
-    } in
-    absurd (not_different two (extraction_in board first_challenge first_reply second_challenge
-    second_reply) same
-    (accepted_are_extracted board first_challenge first_reply second_challenge second_reply two))
-
-pub same_is_found : SameIsFound
-same_is_found board first_challenge first_reply second_challenge second_reply =
-    let ahead = ahead_in board first_challenge first_reply second_challenge second_reply in
-    let base = begun_in board first_challenge first_reply second_challenge second_reply in (
-      λ same. let both = only_accepted_give board first_challenge first_reply second_challenge
-          second_reply (same_accepted base ahead.finding
-          (gathered_after (λ (base : BoardBase). statement_of base.front) base ahead.lanes) same) in
-          record {
-            first = both.0;
-            second = both.1;
-            same = by_bits both.0 both.1 (same_bits (bits_of both.0) (bits_of both.1)) refl
-                same;
-          },
-      λ both. let give = accepted_give board first_challenge first_reply second_challenge
-          second_reply both.first both.second in
-          ap (λ finding. found_by (λ (base : BoardBase). shown_on base.front) base finding
-          (gathered_after (λ (base : BoardBase). statement_of base.front) base ahead.lanes))
-          (give.2.finding ∙ accepted_same {V = BoardVerdict} (bits_of both.first)
-          (bits_of both.second) both.same),
-    )

@@ -1,5 +1,4 @@
 pub mod Agreeing
-pub mod Begun
 pub mod Binding
 pub mod Boards
 pub mod Confronted
@@ -8,6 +7,8 @@ pub mod ConfrontNamed
 pub mod Gathered
 pub mod Halves
 pub mod Headlines
+pub mod FileExtraction
+pub mod FileHeadline
 pub mod Leading
 pub mod Named
 pub mod Opening

@@ -8,7 +8,7 @@ use Rattle.vk_board.specs.declared.board.SealLines.{SealLines}
 use Rattle.vk_board.specs.declared.front.Front.{Front}
 use Rattle.vk_board.specs.Texts.{head_text, lanes_text}
 use Rattle.vk_verifier.specs.Acceptance.{Accepts}
-use Rattle.vk_verifier.specs.TwoValues.{bits_of, two_lane_in}
+use Rattle.vk_judge.specs.FileForms.{bits_of, two_lane_in}
 use Rattle.vk_verifier.proofs.Plans.{statement_right}
 use Rattle.vk_bids.specs.declared.bids.LaneBids.{LaneBids}
 use Rattle.vk_bids.specs.declared.extraction.Extracted.{Extracted}

@@ -17,7 +17,6 @@ use Rattle.vk_seal.specs.declared.secret.Secret.{Secret}
 use Rattle.vk_board.specs.declared.board.SealLines.{SealLines}
 use Rattle.vk_board.specs.declared.front.Front.{Front}
 use Rattle.vk_extractor.specs.Confronting.{AreItsHalves, IsConfronted}
-use Rattle.vk_verifier.specs.TwoValues.{front_in}
 use Rattle.vk_bids.specs.declared.bids.LaneBids.{LaneBids}
 use Rattle.vk_bids.specs.declared.bids.OpenedBid.{OpenedBid}
 use Rattle.vk_bids.specs.declared.confrontation.Confrontation.{Confrontation}
@@ -25,7 +24,8 @@ use Rattle.vk_bids.specs.declared.confrontation.Confrontation.TheVariants.{Refus
 use Rattle.vk_bids.specs.declared.confrontation.Confrontation.TheVariants as comes
 use Rattle.vk_bids.specs.declared.extraction.Extracted.{Extracted}
 use Rattle.vk_bids.specs.Confrontation.{confrontation_in, confrontation_on}
-use Rattle.vk_bids.specs.Headline.{HeldFiles, IsExtraction, IsExtractionClash, IsHeldFile, TwoAccepted}
+use Rattle.vk_judge.specs.HeldFiles.{HeldFiles, IsHeldFile}
+use Rattle.vk_bids.specs.Headline.{IsExtraction, IsExtractionClash, TwoAccepted}
 
 -- ---- the seal
 
@@ -131,7 +131,7 @@ SealedAreHeldOrClash = (board first_challenge first_reply second_challenge secon
     ℕ)
     (two : TwoAccepted board first_challenge first_reply second_challenge second_reply)
     (secret : Secret) (index : ℕ)
-    → IsSecret secret → file ≡ secret_text secret → IsSealOf (front_in two.first) secret index
+    → IsSecret secret → file ≡ secret_text secret → IsSealOf (two.first.front) secret index
     → let confrontation = confrontation_in board first_challenge first_reply second_challenge
     second_reply file in
     ClashOr two (λ found. HeldOrClash secret index found confrontation) confrontation
@@ -169,7 +169,7 @@ abbrev pub confrontation_of_held : {files : Files}
     → HeldFiles files board first_challenge first_reply second_challenge second_reply → List ℕ
     → Confrontation
 confrontation_of_held held secret =
-    confrontation_in held.board_bytes held.first.challenge_bytes held.first.reply_bytes
+    confrontation_in held.file_bytes held.first.challenge_bytes held.first.reply_bytes
     held.second.challenge_bytes held.second.reply_bytes secret
 
 -- the six files are held, and their bytes come to this confrontation

@@ -129,7 +129,7 @@ confrontation_on files board first_challenge first_reply second_challenge second
 abbrev pub confrontation_named : Files → SecretAndReplies → Result Confrontation ConfrontErr
 confrontation_named files names =
     let replies = names.replies in
-    confrontation_on files replies.board.now replies.challenge1.now replies.reply1.now
+    confrontation_on files replies.file.now replies.challenge1.now replies.reply1.now
     replies.challenge2.now replies.reply2.now names.secret.now
 
 -- which file is missing or too long, as a refusal tells it. A failure of the outside and want of

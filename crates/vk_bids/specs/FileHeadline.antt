@@ -11,7 +11,7 @@ use Rattle.vk_bids.specs.declared.lane_extraction.OpenedLanes.{OpenedLanes}
 use Rattle.vk_bids.specs.Extractions.{IsClashOr, IsFound}
 use Rattle.vk_bids.specs.FileExtraction.{FileExtraction, IsFoundBy, file_extraction_in}
 use Rattle.vk_bids.specs.Gathering.{lane_shown}
-use Rattle.vk_bids.specs.Headline.{AgreesAt, IsFirstClashOf, differing}
+use Rattle.vk_bids.specs.OpenedBehind.{AgreesAt, IsFirstClashOf, differing}
 use Rattle.vk_bids.specs.Opening.{AreShownIn, LaneOpens}
 
 -- two replies are accepted with one file, each with its challenge, and the challenges differ

@@ -5,6 +5,9 @@ pub mod Texts
 pub mod Gathering
 pub mod Extractions
 pub mod LaneExtraction
+pub mod FileExtraction
+pub mod OpenedBehind
+pub mod FileHeadline
 pub mod Extraction
 pub mod Headline
 pub mod Soundness

@@ -2,24 +2,22 @@
 ghost use Rattle.std.specs.Prelude.{◌≡◌, IfOk, IfSome, IsErrOf};
 ghost use Rattle.vk_io.specs.Reads.{OnlyReads};
 ghost use Rattle.vk_lines.specs.Gives.{Gives};
-ghost use Rattle.vk_board.specs.Fronts.{front_with};
 ghost use Rattle.vk_judge.specs.Begun.{unread_file};
-ghost use Rattle.vk_verifier.specs.declared.two_boards.BoardStage.TheVariants.{Behind};
-ghost use Rattle.vk_judge.specs.Two.{given_of};
-ghost use Rattle.vk_verifier.specs.TwoBoards.{IsBoardCourse, board_ahead, board_base, board_given};
+ghost use Rattle.vk_judge.specs.Opened.{checked_base, checked_given, coming_of};
 ghost use Rattle.vk_judge.specs.Wanting.{MemoryWasWanting};
-ghost use Rattle.vk_bids.specs.Extraction.{AreOfFront, Shows, extraction_named, extraction_of, extraction_with};
-ghost use Rattle.vk_bids.specs.LaneExtraction.{OpensLanes};
+ghost use Rattle.vk_verifier.specs.TwoBoards.{IsOfBoard};
+ghost use Rattle.vk_bids.specs.Extraction.{Shows, as_extraction, board_extraction, extraction_named};
 
 use crate::bids::LaneBids;
-use crate::lane_extraction::{LaneExtraction, OpenedLanes, extract_lanes};
+use crate::file_extraction::{FileExtraction, OpenedFile, extract_checked};
+use crate::lane_extraction::OpenedLanes;
 use std::alloc::Global;
-use vk_board::{Front, Head};
+use vk_board::Front;
 use vk_commit::TwoOpenings;
 use vk_io::{OutsideErr, Shelf};
 use vk_judge::{TwoReplies, VErr};
 use vk_seq::Seq;
-use vk_verifier::{BoardCourse, BoardVerdict, TwoChecker};
+use vk_verifier::{BoardChecker, BoardRefusal, BoardVerdict, PlacedHead, begin_board};
 
 /// The bids that two accepted replies give, and what stands on the board before its first lane.
 #[derive(Debug, Drop)]
@@ -71,24 +69,16 @@ pub(crate) fn begin<S: Shelf>(
     alloc: Global,
     shelf: &mut S,
     names: &TwoReplies<'_>,
-) -> Result<TwoChecker, VErr>
+) -> Result<BoardChecker, VErr>
     ensures modelled { IfSome (S.held shelf.old)
-        (λ files. Gives unread_file
-        (λ checker. extraction_of (board_base checker) (board_ahead checker files)) result
+        (λ files. Gives unread_file (λ checker. board_extraction (coming_of checker files)) result
         (extraction_named files names.now)) }
-    ensures none_given { IfOk result (λ checker. board_given checker ≡ 0) }
+    ensures right { IfOk result (λ checker. IsOfBoard (checked_base checker)) }
+    ensures none_given { IfOk result (λ checker. checked_given checker ≡ 0) }
     ensures wanting { IsErrOf result VErr.NoMemory → MemoryWasWanting }
     ensures shelf { OnlyReads S.held S.Shelf.faults VErr.Failed result shelf.old shelf.new }
 {
-    let checker = TwoChecker::start(
-        alloc,
-        shelf,
-        names.board,
-        names.challenge1,
-        names.reply1,
-        names.challenge2,
-        names.reply2,
-    );
+    let checker = begin_board(alloc, shelf, names);
     checker
 }
 
@@ -96,65 +86,35 @@ pub(crate) fn begin<S: Shelf>(
 pub(crate) fn extract_rest<S: Shelf>(
     alloc: Global,
     shelf: &mut S,
-    checker: TwoChecker,
+    checker: BoardChecker,
 ) -> Result<Extraction, OutsideErr>
-    requires none_given { board_given checker ≡ 0 }
+    requires none_given { checked_given checker ≡ 0 }
+    requires right { IsOfBoard (checked_base checker) }
     ensures modelled { IfOk result (λ extraction. IfSome (S.held shelf.old) (λ files.
-        extraction_of (board_base checker) (board_ahead checker files) ≡ extraction)) }
+        board_extraction (coming_of checker files) ≡ extraction)) }
     ensures shows { IfOk result Shows }
     ensures wanting { IsErrOf result OutsideErr.NoMemory → MemoryWasWanting }
     ensures shelf { OnlyReads S.held S.Shelf.faults OutsideErr.Failed result shelf.old shelf.new }
 {
-    match checker.into_course() {
-        Err(verdict) => Ok(Extraction::Refused {
-            second: false,
-            verdict,
-        }),
-        Ok(course) => {
-            let extraction = extract_course(alloc, shelf, course)?;
-            Ok(extraction)
-        }
-    }
-}
-
-/// What the replies come to, where there is no fault before the first lane of the board.
-fn extract_course<S: Shelf>(
-    alloc: Global,
-    shelf: &mut S,
-    course: BoardCourse,
-) -> Result<Extraction, OutsideErr>
-    requires none_given { given_of course.lanes ≡ 0 }
-    requires right { IsBoardCourse course }
-    ensures modelled { IfOk result (λ extraction. IfSome (S.held shelf.old) (λ files.
-        extraction_of (board_base (Behind course)) (board_ahead (Behind course) files)
-        ≡ extraction)) }
-    ensures shows { IfOk result Shows }
-    ensures wanting { IsErrOf result OutsideErr.NoMemory → MemoryWasWanting }
-    ensures shelf { OnlyReads S.held S.Shelf.faults OutsideErr.Failed result shelf.old shelf.new }
-{
-    let head = course.head;
-    let position = course.position;
-    let found = extract_lanes(alloc, shelf, course.lanes)?;
-    let extraction = with_front(head, position, found);
+    let found = extract_checked(alloc, shelf, checker)?;
+    let extraction = as_extraction(found);
     Ok(extraction)
 }
 
-/// What is found behind the front of a board with this head, where the winner's seal has that
-/// place, from 1; no place where nothing is sold.
-fn with_front(head: Head, position: Option<u32>, found: LaneExtraction) -> Extraction
-    requires opens { OpensLanes found }
-    requires front { AreOfFront (λ s. front_with head s.seals position) found }
-    ensures value { result ≡ extraction_with (λ s. front_with head s.seals position) found }
-    ensures shows { Shows result }
+/// What the replies come to, as it is told of a board.
+fn as_extraction(found: FileExtraction<PlacedHead, BoardRefusal>) -> Extraction
+    ensures { result ≡ as_extraction found }
 {
     match found {
-        Extraction::Refused { second, verdict } => Extraction::Refused {
-            second,
-            verdict: BoardVerdict::from(verdict),
-        },
+        Extraction::Refused { second, verdict } => {
+            let verdict = BoardVerdict::from(verdict);
+            Extraction::Refused { second, verdict }
+        }
         Extraction::Same => Extraction::Same,
         Extraction::Clash(two) => Extraction::Clash(two),
-        Extraction::Bids(opened) => {
+        Extraction::Bids(found) => {
+            let OpenedFile { head, opened } = found;
+            let PlacedHead { head, position } = head;
             let OpenedLanes { statement, lanes } = opened;
             let seals = statement.into_seals();
             let front = Front {

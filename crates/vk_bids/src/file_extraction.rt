@@ -40,7 +40,7 @@ pub fn extract_file<S: Shelf, H: Drop, R: Copy>(
     ensures shelf { OnlyReads S.held S.Shelf.faults OutsideErr.Failed result shelf.old shelf.new }
 {
     let checker = Checker::begin(alloc, shelf, opened, two)?;
-    let found = extract_rest(alloc, shelf, checker)?;
+    let found = extract_checked(alloc, shelf, checker)?;
     Ok(found)
 }
 
@@ -48,7 +48,7 @@ pub fn extract_file<S: Shelf, H: Drop, R: Copy>(
 /// end or to its first fault, and a fault of any comes before a clash. At most 64 lanes are kept.
 ///
 /// Errs where the shelf fails, and for want of memory.
-pub fn extract_rest<S: Shelf, H: Drop, R: Copy>(
+pub fn extract_checked<S: Shelf, H: Drop, R: Copy>(
     alloc: Global,
     shelf: &mut S,
     checker: Checker<H, R>,

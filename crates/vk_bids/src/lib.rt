@@ -10,6 +10,7 @@ mod confront_printing;
 mod confrontation;
 mod extracting;
 mod extraction;
+mod file_extraction;
 mod gathering;
 mod lane_extraction;
 mod laws;
@@ -21,6 +22,7 @@ pub use confront_printing::confrontation_line;
 pub use confrontation::{ConfrontErr, Confrontation, SecretAndReplies, confront};
 pub use extracting::extract_bids;
 pub use extraction::{Extracted, Extraction, extract};
+pub use file_extraction::{FileExtraction, OpenedFile, extract_checked, extract_file};
 pub use gathering::add_lane;
 pub use lane_extraction::{LaneExtraction, OpenedLanes, extract_behind, extract_lanes};
 pub use laws::{

@@ -2,9 +2,9 @@ use Rattle.std.proofs.Common.{◌≡◌, ◌∙◌, ap, IfSome, Ok}
 use Rattle.std.specs.FinMap.{get}
 use Rattle.std.proofs.lemmas.Option.{IfSome_then}
 use Rattle.vk_lines.specs.Lines.{rest_of}
-use Rattle.vk_verifier.specs.TwoBoards.{board_ahead, board_base}
+use Rattle.vk_judge.specs.Opened.{coming_of}
 use Rattle.vk_bids.specs.Confrontation.{secret_begun}
-use Rattle.vk_bids.specs.Extraction.{extraction_named, extraction_of}
+use Rattle.vk_bids.specs.Extraction.{board_extraction, extraction_named}
 use Rattle.vk_bids.proofs.ConfrontedFiles.{confronted, refused_first, refused_second}
 use Rattle.vk_bids.proofs.Leading.{both_held}
 use Rattle.vk_bids.proofs.confrontation.confront.Goals as goal
@@ -15,8 +15,8 @@ returns-in_err-checker-clause-modelled g c =
     let replies = names.replies in
     IfSome_then (g.S.Shelf.held c.args.shelf.now) c.in_err-checker.ensures.modelled
     (λ files gives. refused_first
-    (λ checker. extraction_of (board_base checker) (board_ahead checker files)) files
-    replies.board.now replies.challenge1.now replies.reply1.now replies.challenge2.now
+    (λ checker. board_extraction (coming_of checker files)) files
+    replies.file.now replies.challenge1.now replies.reply1.now replies.challenge2.now
     replies.reply2.now
     names.secret.now c.in_err-checker.field-0.0 c.from_residual.result c.from_residual.ensures.1
     gives)
@@ -28,10 +28,10 @@ returns-in_err-lines-clause-modelled g c =
     let start = c.in_ok-checker.checker in
     both_held (g.S.Shelf.held c.args.shelf.now) (g.S.Shelf.held c.begin.new.shelf)
     c.in_ok-checker.ensures.shelf.held
-    (λ files given begun. refused_second (λ lines. rest_of lines files) files replies.board.now
+    (λ files given begun. refused_second (λ lines. rest_of lines files) files replies.file.now
     replies.challenge1.now replies.reply1.now replies.challenge2.now replies.reply2.now
     names.secret.now
-    (extraction_of (board_base start) (board_ahead start files)) c.in_err-lines.field-0.0
+    (board_extraction (coming_of start files)) c.in_err-lines.field-0.0
     c.from_residual-in_err-lines.result c.from_residual-in_err-lines.ensures.1 given begun)
     c.in_ok-checker.ensures.modelled c.in_err-lines.ensures.modelled
 
@@ -53,7 +53,7 @@ returns-clause-modelled g c =
     (λ files is begun. (is, begun)) given c.in_ok-lines.ensures.modelled in
     both_held held (g.S.Shelf.held c.extract_rest.new.shelf)
     (c.in_ok-extraction.ensures.shelf.held ∙ on_secret)
-    (λ files are reads. confronted files replies.board.now replies.challenge1.now replies.reply1.now
+    (λ files are reads. confronted files replies.file.now replies.challenge1.now replies.reply1.now
     replies.challenge2.now replies.reply2.now names.secret.now extraction (rest_of lines files)
     c.in_ok-secret.secret c.confronted-confrontation.result are.0 are.1 reads
     c.confronted-confrontation.ensures)
