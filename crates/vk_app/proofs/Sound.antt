@@ -155,11 +155,11 @@ module _ (files : Files) (status : ℕ) (old new : Option (List ℕ)) where
       let held = accepted.held in
       let two = accepted.two in
       record {
-        file = held.board_bytes;
+        file = held.file_bytes;
         front = two.first.front;
         first = two.first.behind.challenge;
         second = two.second.behind.challenge;
-        board_is = held.board_is.is;
+        board_is = held.file_is.is;
         begins = begins_with_front two.first;
         first_is = held.first.challenge_is.is
             ∙ ap (λ bytes. Some bytes) two.first.behind.challenge_is.0;
@@ -178,11 +178,11 @@ module _ (files : Files) (status : ℕ) (old new : Option (List ℕ)) where
       let held = accepted.held in
       let two = accepted.two in
       record {
-        file = held.board_bytes;
+        file = held.file_bytes;
         front = two.shown.front;
         first = two.behind.first.challenge;
         second = two.behind.second.challenge;
-        claim_is = held.board_is.is;
+        claim_is = held.file_is.is;
         begins = begins_with_claim two;
         first_is = held.first.challenge_is.is
             ∙ ap (λ bytes. Some bytes) two.behind.first.challenge_is.0;

@@ -12,8 +12,8 @@ use Rattle.vk_judge.specs.declared.answers.VErr.{VErr}
 use Rattle.vk_judge.specs.declared.answers.VErr.TheVariants.{Missing, TooLong, Failed, NoMemory}
 use Rattle.vk_judge.specs.Begun.{of_files}
 use Rattle.vk_judge.specs.Begun.{begun_file, from_start, of_attempt}
-use Rattle.vk_bids.specs.Headline.{HeldAttempt, IsHeldFile}
-use Rattle.vk_bids.proofs.Begun.{attempt_found, begun_found}
+use Rattle.vk_judge.specs.HeldFiles.{HeldAttempt, IsHeldFile}
+use Rattle.vk_judge.proofs.HeldFiles.{attempt_found, begun_found}
 use Rattle.vk_words.specs.Names.{ExtractWords, VerifyWords}
 use Rattle.vk_effect.specs.Effects.{SaidValue, puts}
 use Rattle.vk_effect.specs.NamedFiles.{missing_said, too_long_said}
@@ -113,8 +113,8 @@ module _ {X : Type 0} (whole : Rest → Rest → Rest → Rest → Rest → X) (
 pub files_held : {files : Files} {names : ExtractWords}
     → AllByRecursion (CanBeRead files) (extract_inputs names) → HoldsFiles files names
 files_held read = record {
-  board_bytes = read.0.0;
-  board_is = read.0.1;
+  file_bytes = read.0.0;
+  file_is = read.0.1;
   first = record {
     challenge_bytes = read.1.0.0;
     reply_bytes = read.1.1.0.0;

@@ -10,7 +10,6 @@ use Rattle.vk_seal.specs.Reading.{secret_at}
 use Rattle.vk_judge.specs.declared.answers.Part.{Part}
 use Rattle.vk_judge.specs.declared.answers.VErr.{VErr}
 use Rattle.vk_judge.specs.declared.answers.VErr.TheVariants.{Missing, TooLong, Failed, NoMemory}
-use Rattle.vk_verifier.specs.TwoValues.{front_in}
 use Rattle.vk_judge.specs.Begun.{from_start}
 use Rattle.vk_bids.specs.Extraction.{Extraction}
 use Rattle.vk_bids.specs.declared.extraction.Extraction.TheVariants as extraction
@@ -21,12 +20,13 @@ use Rattle.vk_bids.specs.declared.confrontation.ConfrontErr.TheVariants.{Unread,
 use Rattle.vk_bids.specs.Texts.{clash_text}
 use Rattle.vk_seal.specs.Texts.{secret_text}
 use Rattle.vk_bids.specs.Confrontation.{confrontation_of, confrontation_on, of_extraction, secret_begun, secret_in}
-use Rattle.vk_bids.specs.Headline.{IsExtractionClash, IsHeldFile, IsOf, LaneAgrees, TwoAccepted, differing_in, extraction_of_held}
+use Rattle.vk_judge.specs.HeldFiles.{IsHeldFile}
+use Rattle.vk_bids.specs.Headline.{IsExtractionClash, IsOf, LaneAgrees, TwoAccepted, differing_in, extraction_of_held}
 use Rattle.vk_bids.specs.Binding.{ClashOr, HeldOrClash, IsClashWith, IsSealOf, confrontation_of_held}
 use Rattle.vk_bids.proofs.Agreeing.{no_clash}
 use Rattle.vk_bids.proofs.Binding.{sealed_are_held_or_clash}
 use Rattle.vk_bids.proofs.ConfrontNamed.{files_are_confronted}
-use Rattle.vk_bids.proofs.Headlines.{accepted_are_extracted}
+use Rattle.vk_bids.proofs.Boards.{accepted_are_extracted}
 use Rattle.vk_words.specs.Names.{ConfrontWords, ExtractWords}
 use Rattle.vk_effect.specs.Effects.{SaidValue, puts}
 use Rattle.vk_effect.specs.NamedFiles.{missing_said, too_long_said}
@@ -127,7 +127,7 @@ module _ (files : Files) (names : ConfrontWords) where
         held = held;
         file = file;
         file_is = secret_is;
-        holds = confrontation_holds held.board_bytes held.first.challenge_bytes
+        holds = confrontation_holds held.file_bytes held.first.challenge_bytes
             held.first.reply_bytes held.second.challenge_bytes held.second.reply_bytes file;
       })
 
@@ -191,7 +191,7 @@ module _ (files : Files) (names : ConfrontWords) where
   answer_settled (Ok confrontation) settles holds =
       let held = holds.held in
       ap said_of (answer_read held holds.file holds.file_is ∙ ap (λ c. Ok c)
-      (settled_found held.board_bytes held.first.challenge_bytes held.first.reply_bytes
+      (settled_found held.file_bytes held.first.challenge_bytes held.first.reply_bytes
       held.second.challenge_bytes held.second.reply_bytes holds.file confrontation settles
       holds.holds))
   answer_settled (Err (Unread (Missing part))) settles holds =
@@ -205,7 +205,7 @@ module _ (files : Files) (names : ConfrontWords) where
 
   -- the replies clash
   module _ (held : HoldsFiles files replies) (file : List ℕ) (taken : Option (List ℕ))
-      (two : TwoAccepted held.board_bytes held.first.challenge_bytes held.first.reply_bytes
+      (two : TwoAccepted held.file_bytes held.first.challenge_bytes held.first.reply_bytes
       held.second.challenge_bytes held.second.reply_bytes)
       (clashes : ¬ All (LaneAgrees two) (differing_in two)) where
     abbrev PutsIt : SaidValue → Type 0
@@ -226,7 +226,7 @@ module _ (files : Files) (names : ConfrontWords) where
     clash_told is =
         subst (λ answer. PutsIt (said_of answer)) (sym (answer_read held file is))
         (by_extraction (extraction_of_held held)
-        (accepted_are_extracted held.board_bytes held.first.challenge_bytes held.first.reply_bytes
+        (accepted_are_extracted held.file_bytes held.first.challenge_bytes held.first.reply_bytes
         held.second.challenge_bytes held.second.reply_bytes two))
 
   answer_holds : ConfrontHolds files names answer
@@ -274,7 +274,7 @@ said_bound {names} confronts index taken confrontation
 
 always_bound : (files : Files) (names : ConfrontWords) (taken : Option (List ℕ))
     (confronts : ConfrontsFiles files names) (index : ℕ)
-    → IsSealOf (front_in confronts.two.first) confronts.secret index
+    → IsSealOf (confronts.two.first.front) confronts.secret index
     → let said = confront_said files names in
     IsBound confronts index said.status taken (puts said.text taken)
 always_bound files names taken confronts index seal =
@@ -285,7 +285,7 @@ always_bound files names taken confronts index seal =
     let file = secret_text confronts.secret in
     subst P (sym (answer_read files names held file confronts.file_is))
     (said_bound confronts index taken (confrontation_of_held held file)
-    (sealed_are_held_or_clash held.board_bytes held.first.challenge_bytes held.first.reply_bytes
+    (sealed_are_held_or_clash held.file_bytes held.first.challenge_bytes held.first.reply_bytes
     held.second.challenge_bytes held.second.reply_bytes file
     confronts.two confronts.secret index confronts.right refl seal))
 
@@ -302,7 +302,7 @@ only_held files names (Err MissingSecret) holds zero_is = absurd (omega arith)
 only_held files names (Err TooLongSecret) holds zero_is = absurd (omega arith)
 only_held files names (Ok (Refused second refused)) holds zero_is =
     let held = holds.held in
-    absurd (refused_never second refused held.board_bytes held.first.challenge_bytes
+    absurd (refused_never second refused held.file_bytes held.first.challenge_bytes
     held.first.reply_bytes held.second.challenge_bytes held.second.reply_bytes holds.holds
     (status_accepted names.replies second refused (λ one. omega arith) (omega arith)))
 only_held files names (Ok Same) holds zero_is = absurd (omega arith)

@@ -2,21 +2,19 @@
 -- challenges, bids or a clash, and of no others.
 use Rattle.std.proofs.Common.{◌≡◌, ◌≢◌, ℕ, ◌<◌, Bool, true, false, List, Option, Some, None, Result, Ok, Err, refl, sym, ap, subst, ◌∙◌, arith, inl, inr}
 use Rattle.std.specs.Prelude.{◌⊎◌}
-use Rattle.vk_residue.specs.Steps.{◌>>=◌}
 use Rattle.vk_io.specs.Files.{Files, Modelled}
 use Rattle.vk_judge.specs.declared.answers.Part.{Part}
 use Rattle.vk_verifier.specs.declared.answers.BoardVerdict.{BoardVerdict}
 use Rattle.vk_verifier.specs.declared.answers.BoardVerdict.TheVariants as verdict
 use Rattle.vk_judge.specs.declared.answers.VErr.{VErr}
-use Rattle.vk_verifier.specs.TwoBoards.{ahead_at, base_on, two_on}
 use Rattle.vk_bids.specs.declared.extraction.Extraction.{Extraction as ExtractionOf}
 use Rattle.vk_bids.specs.declared.extraction.Extraction.TheVariants.{Refused, Same, Clash, Bids}
-use Rattle.vk_bids.specs.Extraction.{Extraction, extraction_of, extraction_on}
+use Rattle.vk_bids.specs.Extraction.{Extraction, extraction_at, extraction_on}
 use Rattle.vk_bids.specs.Texts.{clash_text, extraction_text}
 use Rattle.vk_bids.specs.Headline.{IsExtraction, IsExtractionClash, extraction_of_held}
 use Rattle.vk_bids.specs.Extractions.{IsClashOr}
 use Rattle.vk_commit.specs.Commitment.{TwoOpeningsSeen}
-use Rattle.vk_bids.proofs.Headlines.{accepted_are_extracted}
+use Rattle.vk_bids.proofs.Boards.{accepted_are_extracted}
 use Rattle.vk_bids.proofs.Named.{files_are_extracted}
 use Rattle.vk_words.specs.Names.{ExtractWords}
 use Rattle.vk_effect.specs.Effects.{SaidValue, puts}
@@ -39,22 +37,11 @@ module _ (files : Files) (names : ExtractWords) where
   answer = extraction_on files names.board names.first.challenge names.first.reply
       names.second.challenge names.second.reply
 
-  two_unread : (unread : Part × Bool)
-      → first_unread files (name_of names) extract_parts ≡ Some unread
-      → two_on files names.board names.first.challenge names.first.reply names.second.challenge
-      names.second.reply ≡ Err (fault_of unread)
-  unfolding two_on
-  two_unread unread is = files_unread ahead_at files names unread is
-
   pub answer_unread : (unread : Part × Bool)
       → first_unread files (name_of names) extract_parts ≡ Some unread
       → answer ≡ Err (fault_of unread)
   unfolding extraction_on
-  answer_unread unread is =
-      ap (λ ahead. ahead >>= λ ahead. base_on files names.board names.first.challenge
-      names.first.reply names.second.challenge names.second.reply >>= λ base.
-      Ok (extraction_of base ahead))
-      (two_unread unread is)
+  answer_unread unread is = files_unread extraction_at files names unread is
 
   pub answer_read : (held : HoldsFiles files names) → answer ≡ Ok (extraction_of_held held)
   answer_read held =
@@ -66,7 +53,7 @@ module _ (files : Files) (names : ExtractWords) where
   answer_holds = extract_holds files names (HasExtraction files names) answer answer_unread
       extraction_of_held answer_read (λ held. record {
         held = held;
-        holds = extraction_holds held.board_bytes held.first.challenge_bytes held.first.reply_bytes
+        holds = extraction_holds held.file_bytes held.first.challenge_bytes held.first.reply_bytes
             held.second.challenge_bytes held.second.reply_bytes;
       })
 
@@ -74,7 +61,7 @@ module _ (files : Files) (names : ExtractWords) where
   answer_alone extraction settles has =
       let held = has.held in
       answer_read held ∙ ap (λ e. Ok e)
-      (unfound_found held.board_bytes held.first.challenge_bytes held.first.reply_bytes
+      (unfound_found held.file_bytes held.first.challenge_bytes held.first.reply_bytes
       held.second.challenge_bytes held.second.reply_bytes extraction settles has.holds)
 
 abbrev said_of : ExtractWords → Result Extraction VErr → SaidValue
@@ -121,7 +108,7 @@ said_of_accepted files names taken accepted =
     subst P (sym (answer_read files names held))
     (found_said (IsExtractionClash accepted.two) (IsExtraction accepted.two) extraction_text
     (extraction_said names) (λ clash. refl) (λ found. refl) taken (extraction_of_held held)
-    (accepted_are_extracted held.board_bytes held.first.challenge_bytes held.first.reply_bytes
+    (accepted_are_extracted held.file_bytes held.first.challenge_bytes held.first.reply_bytes
     held.second.challenge_bytes held.second.reply_bytes accepted.two))
 
 -- ---- only such files
@@ -146,7 +133,7 @@ only_said files names =
     (AcceptsTwoFiles files names)
     (λ second refused holds other small.
     let held = holds.held in
-    refused_never second refused held.board_bytes held.first.challenge_bytes held.first.reply_bytes
+    refused_never second refused held.file_bytes held.first.challenge_bytes held.first.reply_bytes
     held.second.challenge_bytes held.second.reply_bytes holds.holds
     (status_accepted names second refused other small))
     (λ clash holds. record { held = holds.held; two = holds.holds.0 })

@@ -1,5 +1,5 @@
 -- What two replies come to holds of their bytes, and so does what a secret comes to against them.
-use Rattle.std.proofs.Common.{◌≡◌, ◌≢◌, ℕ, All, Bool, true, false, if◌then◌else◌, List, Option, Some, None, Result, Ok, Err, refl, sym, ap, subst, ◌∙◌, inl, inr}
+use Rattle.std.proofs.Common.{◌≡◌, ◌≢◌, ℕ, All, Bool, true, false, List, Option, Some, None, Result, Ok, Err, refl, sym, ap, subst, ◌∙◌, inl, inr}
 use Rattle.std.specs.Prelude.{◌⊎◌}
 use Rattle.std.specs.Result.{result_err}
 use Rattle.vk_lines.specs.Lines.{Rest}
@@ -10,87 +10,80 @@ use Rattle.vk_board.specs.declared.front.Front.{Front}
 use Rattle.vk_board.specs.Values.{AreSeals}
 use Rattle.vk_verifier.specs.declared.answers.BoardVerdict.{BoardVerdict}
 use Rattle.vk_verifier.specs.declared.answers.BoardVerdict.TheVariants as verdict
-use Rattle.vk_judge.specs.declared.stage.Finding.{Finding}
-use Rattle.vk_judge.specs.declared.stage.Finding.TheVariants as two
-use Rattle.vk_verifier.specs.Acceptance.{Accepts}
-use Rattle.vk_verifier.specs.Refusals.{VerdictHolds}
+use Rattle.vk_judge.specs.declared.answers.Fault.TheVariants as behind
+use Rattle.vk_judge.specs.declared.opened.Refusal.{Refusal}
+use Rattle.vk_judge.specs.declared.opened.Refusal.TheVariants as refusal
+use Rattle.vk_judge.specs.FileForms.{JudgedHolds, told_of_second}
+use Rattle.vk_verifier.specs.declared.answers.BoardRefusal.{BoardRefusal}
+use Rattle.vk_verifier.specs.declared.answers.BoardRefusal.TheVariants as refuses
+use Rattle.vk_verifier.specs.declared.boards.PlacedHead.{PlacedHead}
+use Rattle.vk_verifier.specs.Refusals.{VerdictHolds, board_form}
+use Rattle.vk_verifier.specs.Verdicts.{board_front_at, judged_of, refused_verdict, verdict_by}
+use Rattle.vk_verifier.proofs.Verdicts.{is_form, judged_back, verdict_back}
+use Rattle.vk_bids.specs.FileExtraction.{FileExtraction, file_extraction_in}
+use Rattle.vk_bids.specs.FileHeadline.{ExtractionHoldsOf}
+use Rattle.vk_bids.proofs.FileFindings.{file_extraction_holds, file_unfound_found}
 use Rattle.vk_judge.specs.Begun.{from_start}
-use Rattle.vk_verifier.specs.Verdicts.{statement_of, verdict_of}
-use Rattle.vk_judge.specs.Two.{accepted_of, same_bits}
-use Rattle.vk_verifier.specs.TwoBoards.{BoardBase, as_second, is_accepted, two_verdict}
-use Rattle.vk_judge.specs.TwoLaw.{bits_in}
-use Rattle.vk_verifier.specs.TwoLaw.{ahead_in}
-use Rattle.vk_verifier.specs.TwoValues.{begun_in}
-use Rattle.vk_verifier.proofs.Verdicts.{verdict_holds, verdicts_exact}
-use Rattle.vk_verifier.proofs.TwoLaw.{found_in}
 use Rattle.vk_commit.specs.Commitment.{TwoOpeningsSeen}
 use Rattle.vk_bids.specs.declared.bids.LaneBids.{LaneBids}
 use Rattle.vk_bids.specs.declared.extraction.Extracted.{Extracted}
 use Rattle.vk_bids.specs.declared.extraction.Extraction.TheVariants.{Refused, Same, Clash, Bids}
 use Rattle.vk_bids.specs.declared.confrontation.Confrontation.{Confrontation}
 use Rattle.vk_bids.specs.declared.confrontation.Confrontation.TheVariants as comes
-use Rattle.vk_bids.specs.Extraction.{Extraction, extraction_in, shown_on}
-use Rattle.vk_bids.specs.Extractions.{found_by as extracted_by, gathered_after}
+use Rattle.vk_bids.specs.Extraction.{Extraction, as_extraction, extraction_in}
 use Rattle.vk_bids.specs.Headline.{IsExtraction, IsFound, IsOf, TwoAccepted}
 use Rattle.vk_bids.specs.Binding.{ClashOr, HasMismatch, IsConfrontationOf}
 use Rattle.vk_bids.specs.Confrontation.{confrontation_in, confrontation_of, found_by, secret_in}
-use Rattle.vk_bids.proofs.Headlines.{accepted_are_extracted, only_accepted_are_extracted, same_is_found}
+use Rattle.vk_bids.proofs.Boards.{accepted_are_extracted, is_of, only_accepted_are_extracted, same_is_found}
 use Rattle.vk_bids.proofs.Binding.{others_are_malformed, secrets_are_bound}
 use Rattle.vk_bids.proofs.Agreeing.{no_clash}
 use Rattle.vk_audit.specs.Answers.{SettlesConfront}
-use Rattle.vk_audit.specs.Findings.{ConfrontationHolds, ExtractionHolds, SecretComes, SecretFails}
+use Rattle.vk_audit.specs.Findings.{ConfrontationHolds, ExtractionHolds, as_second, SecretComes, SecretFails}
 use Rattle.vk_audit.proofs.Matching.{mismatch_alone, no_seal_alone}
 
 -- ---- verdicts
 
--- only one verdict is of an accepted reply, and no other becomes it where the reply is the second
--- one
-pub accepted_or_not : (answered : BoardVerdict) → (answered ≡ verdict.Accepted)
-    ⊎ ((is_accepted answered ≡ false) × (as_second answered ≢ verdict.Accepted))
-accepted_or_not verdict.Accepted = inl refl
-accepted_or_not (verdict.Malformed file line) = inr (refl, λ same. cc)
-accepted_or_not verdict.Price = inr (refl, λ same. cc)
-accepted_or_not verdict.Winner = inr (refl, λ same. cc)
-accepted_or_not verdict.Lanes = inr (refl, λ same. cc)
-accepted_or_not (verdict.Wire lane wire fault) = inr (refl, λ same. cc)
-accepted_or_not (verdict.Row lane row) = inr (refl, λ same. cc)
+-- no refusal is the verdict that the reply is accepted
+refused_not : (refused : Refusal BoardRefusal) → refused_verdict refused ≢ verdict.Accepted
+refused_not (refusal.Front refuses.Price) = λ same. cc
+refused_not (refusal.Front refuses.Winner) = λ same. cc
+refused_not (refusal.Fault (behind.Malformed file line)) = λ same. cc
+refused_not (refusal.Fault behind.Lanes) = λ same. cc
+refused_not (refusal.Fault (behind.Wire lane wire fault)) = λ same. cc
+refused_not (refusal.Fault (behind.Row lane row)) = λ same. cc
 
-accepted_is : (answered : BoardVerdict) → is_accepted answered ≡ true → answered ≡ verdict.Accepted
-accepted_is answered is = elim (accepted_or_not answered) [
-  | inl same ↦ same
-  | inr other ↦ absurd (cc (other.0, is))
-]
+told_second : (refused : Refusal BoardRefusal)
+    → refused_verdict (told_of_second refused) ≡ as_second (refused_verdict refused)
+told_second (refusal.Front refuses.Price) = refl
+told_second (refusal.Front refuses.Winner) = refl
+told_second (refusal.Fault (behind.Malformed file line)) = refl
+told_second (refusal.Fault behind.Lanes) = refl
+told_second (refusal.Fault (behind.Wire lane wire fault)) = refl
+told_second (refusal.Fault (behind.Row lane row)) = refl
 
+-- and no other becomes it where the reply is the second one
 pub second_accepted : (answered : BoardVerdict) → as_second answered ≡ verdict.Accepted
     → answered ≡ verdict.Accepted
-second_accepted answered is = elim (accepted_or_not answered) [
-  | inl same ↦ same
-  | inr other ↦ absurd (other.1 is)
-]
+second_accepted verdict.Accepted is = refl
+second_accepted (verdict.Malformed file line) is = cc
+second_accepted verdict.Price is = cc
+second_accepted verdict.Winner is = cc
+second_accepted verdict.Lanes is = cc
+second_accepted (verdict.Wire lane wire fault) is = cc
+second_accepted (verdict.Row lane row) is = cc
 
-refuses : (answered : BoardVerdict) → is_accepted answered ≡ false → answered ≢ verdict.Accepted
-refuses answered is = λ same. let yes : is_accepted answered ≡ true = ap is_accepted same in cc
+-- a verdict that isn't that is a refusal
+record IsRefused (answered : BoardVerdict) : Type 0 where
+  refused : Refusal BoardRefusal
+  judged : judged_of answered ≡ Err refused
+  told : refused_verdict refused ≡ answered
 
-by_test : (answered : BoardVerdict) (test : Bool) → is_accepted answered ≡ test
-    → answered ≢ verdict.Accepted → is_accepted answered ≡ false
-by_test answered true is other = absurd (other (accepted_is answered is))
-by_test answered false is other = is
-
-no_refusal : (same second : Bool) (answered : BoardVerdict)
-    → ◌≡◌ {A = Finding BoardVerdict} (if same then two.Same else two.Ready)
-    (two.Refused second answered) → ⊥
-no_refusal true second answered is = cc
-no_refusal false second answered is = cc
-
-refused_finding : (base : Option BoardBase) (finding : Finding BoardVerdict)
-    (gathered : Result (List LaneBids) TwoOpeningsSeen) (second : Bool) (refused : BoardVerdict)
-    → extracted_by (λ (base : BoardBase). shown_on base.front) base finding gathered
-    ≡ Refused second refused → finding ≡ two.Refused second refused
-refused_finding base (two.Refused other fault) gathered second refused is = cc
-refused_finding base two.Same gathered second refused is = cc
-refused_finding (Some base) two.Ready (Ok lanes) second refused is = cc
-refused_finding (Some base) two.Ready (Err clash) second refused is = cc
-refused_finding None two.Ready gathered second refused is = cc
+refused_by : (answered : BoardVerdict) (judged : Result (Unit {0}) (Refusal BoardRefusal))
+    → judged_of answered ≡ judged → answered ≢ verdict.Accepted → IsRefused answered
+refused_by answered (Ok done) is other =
+    absurd (other (sym (verdict_back answered) ∙ ap verdict_by is))
+refused_by answered (Err refused) is other =
+    record { refused = refused; judged = is; told = sym (ap verdict_by is) ∙ verdict_back answered }
 
 -- ---- two replies
 
@@ -102,110 +95,75 @@ module _ (board first_challenge first_reply second_challenge second_reply : List
   abbrev answered : Extraction
   answered = extraction_in board first_challenge first_reply second_challenge second_reply
 
-  abbrev first : BoardVerdict
-  first = verdict_of board first_challenge first_reply
+  abbrev HoldsOf : FileExtraction PlacedHead BoardRefusal → Type 0
+  HoldsOf extraction = ExtractionHoldsOf board_form extraction board first_challenge first_reply
+      second_challenge second_reply
 
-  abbrev other : BoardVerdict
-  other = verdict_of board second_challenge second_reply
+  abbrev of_file : FileExtraction PlacedHead BoardRefusal
+  of_file = file_extraction_in board_front_at board first_challenge first_reply second_challenge
+      second_reply
 
-  abbrev by_finding : Finding BoardVerdict → Extraction
-  by_finding finding =
-      let base = begun_in board first_challenge first_reply second_challenge second_reply in
-      extracted_by (λ (base : BoardBase). shown_on base.front) base finding
-      (gathered_after (λ (base : BoardBase). statement_of base.front) base
-      (ahead_in board first_challenge first_reply second_challenge second_reply).lanes)
+  -- what is judged of a reply, as the verdict on it
+  verdict_of_refusal : (refused : Refusal BoardRefusal) (challenge reply : List ℕ)
+      → JudgedHolds board_form (Err refused) board challenge reply
+      → VerdictHolds (refused_verdict refused) board challenge reply
+  verdict_of_refusal refused challenge reply holds =
+      subst (λ judged. JudgedHolds board_form judged board challenge reply)
+      (sym (judged_back (Err refused))) holds
 
-  abbrev by_tests : BoardVerdict → BoardVerdict → Bool → Bool → Finding BoardVerdict
-  by_tests one another accepted also =
-      if accepted then (if also
-      then accepted_of (bits_in first_challenge) (bits_in second_challenge)
-      else two.Refused true
-      (as_second another)) else two.Refused false one
-
-  first_holds : is_accepted first ≡ true → Accepts board first_challenge first_reply
-  first_holds is = subst (λ v. VerdictHolds v board first_challenge first_reply)
-      (accepted_is first is) (verdict_holds board first_challenge first_reply)
-
-  refused_holds : (second : Bool) (refused : BoardVerdict) (one another : Bool)
-      → is_accepted first ≡ one → is_accepted other ≡ another
-      → by_tests first other one another ≡ two.Refused second refused
-      → Holds (Refused second refused)
-  refused_holds second refused true true first_is other_is is =
-      absurd (no_refusal (same_bits (bits_in first_challenge) (bits_in second_challenge)) second
-      refused is)
-  refused_holds second refused true false first_is other_is is =
-      subst Holds (ap by_finding is) (
-        first_holds first_is,
+  holds_of : (extraction : FileExtraction PlacedHead BoardRefusal) → HoldsOf extraction
+      → Holds (as_extraction extraction)
+  holds_of (Refused false refused) holds =
+      (refused_not refused, verdict_of_refusal refused first_challenge first_reply holds)
+  holds_of (Refused true refused) holds =
+      let fails = holds.1 in (
+        holds.0,
         record {
-          fault = other;
-          refuses = refuses other other_is;
-          holds = verdict_holds board second_challenge second_reply;
-          verdict_is = refl;
+          fault = refused_verdict fails.fault;
+          refuses = refused_not fails.fault;
+          holds = verdict_of_refusal fails.fault second_challenge second_reply fails.holds;
+          verdict_is = ap refused_verdict fails.refusal_is ∙ told_second fails.fault;
         },
       )
-  refused_holds second refused false another first_is other_is is =
-      subst Holds (ap by_finding is)
-      (refuses first first_is, verdict_holds board first_challenge first_reply)
-
-  abbrev two_accepted : IsFound answered
-      → TwoAccepted board first_challenge first_reply second_challenge second_reply
-  two_accepted found = only_accepted_are_extracted board first_challenge first_reply
-      second_challenge second_reply found
-
-  found_of : (extraction : Extraction) → IsFound extraction → extraction ≡ answered
-      → (both : TwoAccepted board first_challenge first_reply second_challenge second_reply)
-      × IsOf both extraction
-  found_of extraction found is =
-      let both = two_accepted (subst IsFound is found) in (
-        both,
-        subst (IsOf both) (sym is)
-            (accepted_are_extracted board first_challenge first_reply second_challenge second_reply
-            both),
-      )
-
-  by_value : (extraction : Extraction) → extraction ≡ answered → Holds extraction
-  by_value (Refused second refused) is =
-      let base = begun_in board first_challenge first_reply second_challenge second_reply in
-      let ahead = ahead_in board first_challenge first_reply second_challenge second_reply in
-      let finding = refused_finding base ahead.finding
-      (gathered_after (λ (base : BoardBase). statement_of base.front) base ahead.lanes) second
-      refused (sym is) in
-      refused_holds second refused (is_accepted first) (is_accepted other) refl refl (sym
-      (found_in board first_challenge first_reply second_challenge second_reply) ∙ finding)
-  by_value Same is = (same_is_found board first_challenge first_reply second_challenge
-      second_reply).0 (sym is)
-  by_value (Clash clash) is = found_of (Clash clash) tt is
-  by_value (Bids found) is = found_of (Bids found) tt is
+  holds_of Same holds = holds
+  holds_of (Clash clash) holds = holds
+  holds_of (Bids found) holds = (holds.0, is_of holds.0 (Bids found) holds.1)
 
   -- the extraction holds of the bytes
   pub extraction_holds : Holds answered
-  extraction_holds = by_value answered refl
+  extraction_holds =
+      holds_of of_file (file_extraction_holds board_form is_form board first_challenge first_reply
+      second_challenge second_reply)
 
-  -- by the two verdicts
-  by_verdicts : (one another : BoardVerdict) (accepted also : Bool) → first ≡ one → other ≡ another
-      → is_accepted one ≡ accepted → is_accepted another ≡ also
-      → answered ≡ by_finding (by_tests one another accepted also)
-  by_verdicts one another accepted also one_is another_is accepted_is also_is =
-      ap by_finding (found_in board first_challenge first_reply second_challenge second_reply
-      ∙ ap (λ v. two_verdict v other (bits_in first_challenge) (bits_in second_challenge)) one_is
-      ∙ ap (λ v. two_verdict one v (bits_in first_challenge) (bits_in second_challenge)) another_is
-      ∙ ap (λ test. by_tests one another test (is_accepted another)) accepted_is
-      ∙ ap (by_tests one another accepted) also_is)
+  -- a refusal that holds is what is found
+  found_so : (second : Bool) (refused : Refusal BoardRefusal) → HoldsOf (Refused second refused)
+      → answered ≡ Refused second (refused_verdict refused)
+  found_so second refused holds =
+      ap as_extraction (file_unfound_found board_form is_form board first_challenge first_reply
+      second_challenge second_reply (Refused second refused) (λ found. found) holds)
 
   pub refused_found : (second : Bool) (refused : BoardVerdict) → Holds (Refused second refused)
       → answered ≡ Refused second refused
   refused_found false refused holds =
-      by_verdicts refused other false (is_accepted other)
-      ((verdicts_exact refused board first_challenge first_reply).1 holds.1) refl
-      (by_test refused
-      (is_accepted refused) refl holds.0) refl
+      let by = refused_by refused (judged_of refused) refl holds.0 in
+      found_so false by.refused
+      (subst (λ judged. JudgedHolds board_form judged board first_challenge first_reply) by.judged
+      holds.1)
+      ∙ ap (Refused false) by.told
   refused_found true refused holds =
       let fails = holds.1 in
-      by_verdicts verdict.Accepted fails.fault true false
-      ((verdicts_exact verdict.Accepted board first_challenge first_reply).1 holds.0)
-      ((verdicts_exact fails.fault board second_challenge second_reply).1 fails.holds) refl
-      (by_test fails.fault (is_accepted fails.fault) refl fails.refuses)
-      ∙ ap (Refused true) (sym fails.verdict_is)
+      let by = refused_by fails.fault (judged_of fails.fault) refl fails.refuses in
+      found_so true (told_of_second by.refused) (
+        holds.0,
+        record {
+          fault = by.refused;
+          holds =
+              subst (λ judged. JudgedHolds board_form judged board second_challenge second_reply)
+              by.judged fails.holds;
+          refusal_is = refl;
+        },
+      )
+      ∙ ap (Refused true) (told_second by.refused ∙ ap as_second by.told ∙ sym fails.verdict_is)
 
   -- and what isn't found is the one extraction that holds
   pub unfound_found : (extraction : Extraction) → ¬ IsFound extraction → Holds extraction

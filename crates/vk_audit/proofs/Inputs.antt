@@ -12,7 +12,7 @@ use Rattle.vk_judge.specs.declared.answers.Part.{Part}
 use Rattle.vk_judge.specs.declared.answers.VErr.{VErr}
 use Rattle.vk_judge.specs.declared.answers.VErr.TheVariants.{Missing, TooLong}
 use Rattle.vk_judge.specs.Begun.{begun_file, from_start}
-use Rattle.vk_bids.proofs.Begun.{not_long}
+use Rattle.vk_judge.proofs.HeldFiles.{not_long}
 use Rattle.vk_audit.specs.Inputs.{CanBeRead, IsFirstUnread, IsLong, IsUnheld}
 
 -- ---- names

@@ -1,14 +1,13 @@
 -- What `verify` says holds of the files, and status 0 comes exactly where the reply is accepted.
 use Rattle.std.proofs.Common.{◌≡◌, ◌≢◌, ℕ, ◌<◌, ◌≤◌, Bool, false, List, Some, Result, Ok, Err, refl, ap, subst, ◌∙◌, arith}
 use Rattle.vk_io.specs.Files.{Files}
-use Rattle.vk_lines.specs.Lines.{Rest}
 use Rattle.vk_judge.specs.declared.answers.Part.{Part}
 use Rattle.vk_verifier.specs.declared.answers.BoardVerdict.{BoardVerdict}
 use Rattle.vk_verifier.specs.declared.answers.BoardVerdict.TheVariants as verdict
 use Rattle.vk_judge.specs.declared.answers.VErr.{VErr}
-use Rattle.vk_verifier.specs.Verdicts.{judged, verdict_by, verdict_of, verdict_on}
+use Rattle.vk_verifier.specs.Verdicts.{verdict_at, verdict_of, verdict_on}
 use Rattle.vk_verifier.proofs.Verdicts.{verdict_holds, verdicts_exact}
-use Rattle.vk_bids.specs.Headline.{HeldAttempt, IsHeldFile}
+use Rattle.vk_judge.specs.HeldFiles.{HeldAttempt, IsHeldFile}
 use Rattle.vk_words.specs.Names.{ExtractWords, VerifyWords}
 use Rattle.vk_effect.specs.Effects.{SaidValue}
 use Rattle.vk_audit.specs.Answers.{TellsVerdicts, VerifyHolds}
@@ -46,9 +45,6 @@ status_within names second (verdict.Row lane row) = omega arith
 -- ---- the answer
 
 module _ (files : Files) (names : VerifyWords) where
-  abbrev judging : Rest → Rest → Rest → BoardVerdict
-  judging board challenge reply = verdict_by (judged board challenge reply)
-
   abbrev answer : Result BoardVerdict VErr
   answer = verdict_on files names.board names.attempt.challenge names.attempt.reply
 
@@ -56,13 +52,13 @@ module _ (files : Files) (names : VerifyWords) where
       → first_unread files (name_of (verified_words names)) verify_parts ≡ Some unread
       → answer ≡ Err (fault_of unread)
   unfolding verdict_on
-  answer_unread unread is = attempt_unread judging files names unread is
+  answer_unread unread is = attempt_unread verdict_at files names unread is
 
   answer_read : (board : List ℕ) → IsHeldFile files names.board board
       → (attempt : HeldAttempt files names.attempt.challenge names.attempt.reply)
       → answer ≡ Ok (verdict_of board attempt.challenge_bytes attempt.reply_bytes)
   unfolding verdict_on
-  answer_read board is attempt = attempt_read judging files names board is attempt
+  answer_read board is attempt = attempt_read verdict_at files names board is attempt
 
   answer_holds : VerifyHolds files names answer
   answer_holds = verify_holds files names (HasVerdict files names) answer answer_unread

@@ -11,7 +11,8 @@ use Rattle.vk_bids.specs.declared.confrontation.Confrontation.{Confrontation}
 use Rattle.vk_bids.specs.declared.confrontation.Confrontation.TheVariants as comes
 use Rattle.vk_bids.specs.declared.confrontation.ConfrontErr.{ConfrontErr}
 use Rattle.vk_bids.specs.declared.confrontation.ConfrontErr.TheVariants.{Unread, MissingSecret, TooLongSecret}
-use Rattle.vk_bids.specs.Headline.{IsFound, IsHeldFile, LaneAgrees, TwoAccepted, differing_in}
+use Rattle.vk_judge.specs.HeldFiles.{IsHeldFile}
+use Rattle.vk_bids.specs.Headline.{IsFound, LaneAgrees, TwoAccepted, differing_in}
 use Rattle.vk_report.specs.declared.report.Report.{Report}
 use Rattle.vk_report.specs.declared.report.ReportErr.{ReportErr}
 use Rattle.vk_report.specs.Meaning.{IsReportOn, IsUnreported}
@@ -84,7 +85,7 @@ pub record HasConfrontation (files : Files) (names : ConfrontWords)
   pub file : List ℕ
   pub file_is : IsHeldFile files names.secret file
   pub holds : ConfrontationHolds confrontation
-      held.board_bytes held.first.challenge_bytes held.first.reply_bytes held.second.challenge_bytes
+      held.file_bytes held.first.challenge_bytes held.first.reply_bytes held.second.challenge_bytes
       held.second.reply_bytes file
 
 abbrev pub ConfrontHolds : Files → ConfrontWords → Result Confrontation ConfrontErr → Type 0
@@ -116,7 +117,7 @@ pub record TellsConfrontation (files : Files) (names : ConfrontWords) (status : 
   pub told : TellsAnswer (ConfrontHolds files names) SettlesConfront
       (answer_said (confrontation_said names) (confront_unread_said names)) status old new
   pub clashes : (held : HoldsFiles files names.replies) → CanBeRead files names.secret
-      → (two : TwoAccepted held.board_bytes held.first.challenge_bytes held.first.reply_bytes
+      → (two : TwoAccepted held.file_bytes held.first.challenge_bytes held.first.reply_bytes
       held.second.challenge_bytes held.second.reply_bytes)
       → ¬ All (LaneAgrees two) (differing_in two) → (status ≡ 3) × Modelled (PutsClash two) old new
 

@@ -11,7 +11,7 @@ use Rattle.vk_audit.specs.Verdicts.{answer_said, judged_said, same_said, unread_
 -- the same names, as they are given to the extraction
 abbrev pub replies_seen : TwoReplies → ExtractWords
 replies_seen names = record {
-  board = names.board.now;
+  board = names.file.now;
   first = record { challenge = names.challenge1.now; reply = names.reply1.now };
   second = record { challenge = names.challenge2.now; reply = names.reply2.now };
 }

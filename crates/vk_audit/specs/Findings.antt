@@ -6,10 +6,10 @@ use Rattle.vk_seal.specs.Texts.{secret_text}
 use Rattle.vk_seal.specs.Values.{IsSecret}
 use Rattle.vk_seal.specs.declared.secret.Secret.{Secret}
 use Rattle.vk_verifier.specs.declared.answers.BoardVerdict.{BoardVerdict}
-use Rattle.vk_verifier.specs.declared.answers.BoardVerdict.TheVariants.{Accepted}
+use Rattle.vk_verifier.specs.declared.answers.BoardVerdict.TheVariants.{Accepted, Malformed}
 use Rattle.vk_verifier.specs.Acceptance.{Accepts}
 use Rattle.vk_verifier.specs.Refusals.{VerdictHolds}
-use Rattle.vk_verifier.specs.TwoBoards.{as_second}
+use Rattle.vk_judge.specs.Two.{second_part}
 use Rattle.vk_bids.specs.declared.extraction.Extracted.{Extracted}
 use Rattle.vk_bids.specs.Extraction.{Extraction}
 use Rattle.vk_bids.specs.declared.extraction.Extraction.TheVariants.{Refused, Same, Clash, Bids}
@@ -28,6 +28,11 @@ pub record RefusesSecond {V : Type 0} (accepted : V) (of_second : V → V) (Hold
   pub refuses : fault ≢ accepted
   pub holds : Holds fault
   pub verdict_is : verdict ≡ of_second fault
+
+-- the verdict on a second reply, which names the second challenge or reply
+abbrev pub as_second : BoardVerdict → BoardVerdict
+as_second (Malformed file line) = Malformed (second_part file) line
+as_second verdict = verdict
 
 abbrev pub SecondFails : BoardVerdict → List ℕ → List ℕ → List ℕ → Type 0
 SecondFails verdict board challenge reply =

@@ -3,7 +3,7 @@ use Rattle.std.specs.Prelude.{◌≡◌, ℕ, ◌^◌, ◌<◌, List, [], ◌∷
 use Rattle.std.specs.List.{AllByRecursion}
 use Rattle.std.specs.FinMap.{get}
 use Rattle.vk_io.specs.Files.{Files}
-use Rattle.vk_bids.specs.Headline.{HeldFiles, IsHeldFile}
+use Rattle.vk_judge.specs.HeldFiles.{HeldFiles, IsHeldFile}
 use Rattle.vk_words.specs.Names.{ConfrontWords, ExtractWords, VerifyWords}
 
 -- a file of that name is held, with at most 2^30 bytes

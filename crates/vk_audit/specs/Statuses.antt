@@ -8,12 +8,12 @@ use Rattle.vk_seal.specs.Values.{IsSecret}
 use Rattle.vk_verifier.specs.declared.answers.BoardVerdict.{BoardVerdict}
 use Rattle.vk_verifier.specs.declared.answers.BoardVerdict.TheVariants.{Accepted}
 use Rattle.vk_verifier.specs.Refusals.{VerdictHolds}
-use Rattle.vk_verifier.specs.TwoValues.{front_in}
 use Rattle.vk_bids.specs.declared.extraction.Extracted.{Extracted}
 use Rattle.vk_bids.specs.Extraction.{Extraction}
 use Rattle.vk_bids.specs.declared.extraction.Extraction.TheVariants.{Same}
 use Rattle.vk_bids.specs.Texts.{clash_text, extraction_text}
-use Rattle.vk_bids.specs.Headline.{HeldAttempt, IsHeldFile, TwoAccepted, IsExtraction, IsExtractionClash, LaneAgrees, differing_in}
+use Rattle.vk_judge.specs.HeldFiles.{HeldAttempt, IsHeldFile}
+use Rattle.vk_bids.specs.Headline.{TwoAccepted, IsExtraction, IsExtractionClash, LaneAgrees, differing_in}
 use Rattle.vk_bids.specs.Binding.{HoldsIn, IsClashWith, IsHeldBy, IsSealOf}
 use Rattle.vk_report.specs.declared.report.Report.{Report}
 use Rattle.vk_report.specs.Meaning.{IsReportOn}
@@ -54,14 +54,14 @@ IsVerified files names status = ComesExactly 0 (AcceptsFiles files names) status
 -- differ
 pub record AcceptsTwoFiles (files : Files) (names : ExtractWords) : Type 0 where
   pub held : HoldsFiles files names
-  pub two : TwoAccepted held.board_bytes held.first.challenge_bytes held.first.reply_bytes
+  pub two : TwoAccepted held.file_bytes held.first.challenge_bytes held.first.reply_bytes
       held.second.challenge_bytes held.second.reply_bytes
 
 -- they are held, and the extraction holds of their bytes
 pub record HasExtraction (files : Files) (names : ExtractWords) (extraction : Extraction) : Type 0
   where
     pub held : HoldsFiles files names
-    pub holds : ExtractionHolds extraction held.board_bytes held.first.challenge_bytes
+    pub holds : ExtractionHolds extraction held.file_bytes held.first.challenge_bytes
         held.first.reply_bytes held.second.challenge_bytes held.second.reply_bytes
 
 -- both replies are accepted, for challenges that don't differ
@@ -110,7 +110,7 @@ IsExtracted two = PutsFound (PutsExtraction two) (PutsClash two)
 -- of a secret
 pub record ConfrontsFiles (files : Files) (names : ConfrontWords) : Type 0 where
   pub held : HoldsFiles files names.replies
-  pub two : TwoAccepted held.board_bytes held.first.challenge_bytes held.first.reply_bytes
+  pub two : TwoAccepted held.file_bytes held.first.challenge_bytes held.first.reply_bytes
       held.second.challenge_bytes held.second.reply_bytes
   pub agree : All (LaneAgrees two) (differing_in two)
   pub secret : Secret
@@ -146,7 +146,7 @@ pub record BindsSecret (files : Files) (names : ConfrontWords) (status : ℕ)
     (old new : Option (List ℕ)) : Type 0 where
   pub only : status ≡ 0 → HoldsSecret files names
   pub always : (confronts : ConfrontsFiles files names) (index : ℕ)
-      → IsSealOf (front_in confronts.two.first) confronts.secret index
+      → IsSealOf (confronts.two.first.front) confronts.secret index
       → status ≢ 6 → status ≢ 9 → IsBound confronts index status old new
 
 -- ---- `report`

@@ -51,7 +51,7 @@ pub fn replies_of<'a>(names: &ExtractNames<'a>) -> TwoReplies<'a>
     ensures { replies_seen result ≡ extract_seen names.now }
 {
     TwoReplies {
-        board: names.board,
+        file: names.board,
         challenge1: names.first.challenge,
         reply1: names.first.reply,
         challenge2: names.second.challenge,

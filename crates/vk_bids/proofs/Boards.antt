@@ -70,7 +70,7 @@ board_shows base found extraction right opens is =
 
 module _ {board first_challenge first_reply second_challenge second_reply : List ℕ}
     (two : TwoAccepted board first_challenge first_reply second_challenge second_reply) where
-  is_of : (found : FileExtraction PlacedHead BoardRefusal) → IsOfFile board_form two found
+  pub is_of : (found : FileExtraction PlacedHead BoardRefusal) → IsOfFile board_form two found
       → IsOf two (as_extraction found)
   is_of (Bids found) is =
       let front = two.first.front in

@@ -9,6 +9,7 @@ pub mod Halves
 pub mod Headlines
 pub mod FileExtraction
 pub mod FileHeadline
+pub mod FileFindings
 pub mod Leading
 pub mod Named
 pub mod Opening

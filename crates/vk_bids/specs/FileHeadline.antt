@@ -1,11 +1,12 @@
 -- The law of two replies to a file of any form that are accepted for different challenges: they open
 -- values for which its circuit holds, or give two openings of one commitment.
-use Rattle.std.specs.Prelude.{◌≡◌, ◌≢◌, ◌↔◌, ℕ, Bool, true, false, All, List, map}
+use Rattle.std.specs.Prelude.{◌≡◌, ◌≢◌, ◌↔◌, ℕ, Bool, true, false, All, List, map, Err}
 use Rattle.vk_commit.specs.Commitment.{TwoOpeningsSeen}
 use Rattle.vk_wire.specs.declared.wire.Shown.{Shown}
-use Rattle.vk_judge.specs.FileForms.{Accepts, Form, Fronts, bits_of, two_lane_in}
+use Rattle.vk_judge.specs.declared.opened.Refusal.{Refusal}
+use Rattle.vk_judge.specs.FileForms.{Accepts, Form, Fronts, JudgedHolds, bits_of, told_of_second, two_lane_in}
 use Rattle.vk_judge.specs.Opened.{coming_in}
-use Rattle.vk_bids.specs.declared.extraction.Extraction.TheVariants.{Same}
+use Rattle.vk_bids.specs.declared.extraction.Extraction.TheVariants.{Refused, Same, Clash, Bids}
 use Rattle.vk_bids.specs.declared.file_extraction.OpenedFile.{OpenedFile}
 use Rattle.vk_bids.specs.declared.lane_extraction.OpenedLanes.{OpenedLanes}
 use Rattle.vk_bids.specs.Extractions.{IsClashOr, IsFound}
@@ -102,3 +103,27 @@ ExtractsByFinding form = (file first_challenge first_reply second_challenge seco
     (coming_in form.front_at file first_challenge first_reply second_challenge
     second_reply).ahead.finding
     (file_extraction_in form.front_at file first_challenge first_reply second_challenge second_reply)
+
+-- ---- by the bytes of the files
+
+-- the second reply is refused, and its refusal names the second challenge or reply
+pub record SecondRefused {F H R : Type 0} (form : Form F H R) (refusal : Refusal R)
+    (file challenge reply : List ℕ) : Type 0 where
+  pub fault : Refusal R
+  pub holds : JudgedHolds form (Err fault) file challenge reply
+  pub refusal_is : refusal ≡ told_of_second fault
+
+-- the first reply is refused; or it is accepted, and the second is refused; or both are accepted,
+-- and the challenges are the same, one commitment is opened with two values, or there are values
+abbrev pub ExtractionHoldsOf : {F H R : Type 0} → Form F H R → FileExtraction H R → List ℕ → List ℕ
+    → List ℕ → List ℕ → List ℕ → Type 0
+ExtractionHoldsOf form (Refused false refusal) file challenge reply other second =
+    JudgedHolds form (Err refusal) file challenge reply
+ExtractionHoldsOf form (Refused true refusal) file challenge reply other second =
+    Accepts form.fronts file challenge reply × SecondRefused form refusal file other second
+ExtractionHoldsOf form Same file challenge reply other second =
+    SameAccepted form.fronts file challenge reply other second
+ExtractionHoldsOf form (Clash clash) file challenge reply other second =
+    (two : TwoAccepted form.fronts file challenge reply other second) × IsClashOf two clash
+ExtractionHoldsOf form (Bids found) file challenge reply other second =
+    (two : TwoAccepted form.fronts file challenge reply other second) × IsOpenedFile form two found

@@ -1,7 +1,12 @@
 // What holds of every lane that is accepted for both bits, and of two replies behind a front and to
 // a board.
+ghost use Rattle.std.specs.Prelude.{ℕ, List};
+ghost use Rattle.vk_verifier.specs.Refusals.{board_form};
+ghost use Rattle.vk_verifier.specs.Verdicts.{board_front_at};
 ghost use Rattle.vk_bids.specs.Binding.{FilesAreConfronted, OnlyAcceptedAreConfronted, OthersAreMalformed, SealedAreHeldOrClash, SecretsAreBound};
 ghost use Rattle.vk_bids.specs.Headline.{AcceptedAreExtracted, AcceptedBehindOpen, FilesAreExtracted, OnlyAcceptedAreExtracted, OnlyAcceptedOpen, SameIsFound};
+ghost use Rattle.vk_bids.specs.FileExtraction.{file_extraction_in};
+ghost use Rattle.vk_bids.specs.FileHeadline.{ExtractionHoldsOf};
 ghost use Rattle.vk_bids.specs.Laws.{AcceptedLanesOpen, AcceptedLanesShow};
 
 /// Of any statement and any of its lanes, where a reply is accepted for bit 0 and another for bit
@@ -40,12 +45,16 @@ pub fn accepted_replies_open_values_or_clash()
 /// different values.
 ///
 /// Only such files give bids or a clash, and the challenges are found to be the same exactly where
-/// both replies are accepted and the bits are equal. The extraction of named files is that of their
-/// bytes.
+/// both replies are accepted and the bits are equal. What is found is what the verdicts on both come
+/// to. The extraction of named files is that of their bytes.
 pub fn accepted_replies_give_bids_or_a_clash()
     ensures given { AcceptedAreExtracted }
     ensures only { OnlyAcceptedAreExtracted }
     ensures same { SameIsFound }
+    ensures found { (board challenge reply other second : List ℕ)
+        → ExtractionHoldsOf board_form
+        (file_extraction_in board_front_at board challenge reply other second) board challenge reply
+        other second }
     ensures files { FilesAreExtracted }
 {}
 

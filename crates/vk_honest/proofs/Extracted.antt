@@ -28,7 +28,7 @@ use Rattle.vk_bids.specs.Opening.{AreShownIn}
 use Rattle.vk_bids.specs.Texts.{bid_in, bid_or_zero, has_one_bid}
 use Rattle.vk_bids.proofs.Agreeing.{no_clash}
 use Rattle.vk_bids.proofs.Halves.{halves_sum}
-use Rattle.vk_bids.proofs.Headlines.{accepted_are_extracted}
+use Rattle.vk_bids.proofs.Boards.{accepted_are_extracted}
 use Rattle.vk_keeper.specs.Auctions.{IsSealRow}
 use Rattle.vk_keeper.specs.declared.auction.Auction.{Auction}
 use Rattle.vk_keeper.specs.declared.auction.SealRow.{SealRow}

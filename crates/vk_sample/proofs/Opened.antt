@@ -7,7 +7,7 @@ use Rattle.vk_io.specs.Writing.{written}
 use Rattle.vk_reply.specs.declared.challenge.Challenge.{Challenge}
 use Rattle.vk_reply.specs.Texts.{challenge_text}
 use Rattle.vk_bids.specs.declared.extraction.Extraction.TheVariants.{Bids}
-use Rattle.vk_bids.specs.Headline.{HeldAttempt, HeldFiles}
+use Rattle.vk_judge.specs.HeldFiles.{HeldAttempt, HeldFiles}
 use Rattle.vk_bids.specs.Texts.{has_one_bid}
 use Rattle.vk_bids.proofs.Named.{files_are_extracted}
 use Rattle.vk_keeper.specs.declared.auction.Auction.{Auction}
@@ -99,8 +99,8 @@ module _ (sample : SampleCase) (case : IsSampleCase sample) (auction : Auction) 
       let first = insert (insert board sample_names.first.challenge (challenge_text sample.first))
       sample_names.first.reply (reply_of auction sample.first) in
       record {
-        board_bytes = board_of auction;
-        board_is = record {
+        file_bytes = board_of auction;
+        file_is = record {
           is =
               held_first both_attempts files sample_names.board (board_of auction) refl;
           short =

@@ -255,7 +255,7 @@ is_form = record {
 
 -- ---- the verdict
 
-judged_back : (judged : Result (Unit {0}) (Refusal BoardRefusal))
+pub judged_back : (judged : Result (Unit {0}) (Refusal BoardRefusal))
     → judged_of (verdict_by judged) ≡ judged
 judged_back (Ok done) = refl
 judged_back (Err (refusal.Front refuses.Price)) = refl
@@ -265,7 +265,7 @@ judged_back (Err (refusal.Fault behind.Lanes)) = refl
 judged_back (Err (refusal.Fault (behind.Wire lane wire why))) = refl
 judged_back (Err (refusal.Fault (behind.Row lane row))) = refl
 
-verdict_back : (verdict : BoardVerdict) → verdict_by (judged_of verdict) ≡ verdict
+pub verdict_back : (verdict : BoardVerdict) → verdict_by (judged_of verdict) ≡ verdict
 verdict_back Accepted = refl
 verdict_back (Malformed file line) = refl
 verdict_back Price = refl
