@@ -12,22 +12,24 @@ use Rattle.vk_judge.specs.declared.answers.Part.TheVariants as part
 use Rattle.vk_judge.specs.declared.answers.Fault.{Fault}
 use Rattle.vk_judge.specs.declared.answers.VErr.{VErr}
 use Rattle.vk_judge.specs.declared.answers.VErr.TheVariants as verr
-use Rattle.vk_judge.specs.declared.halt.Halt.{Halt}
-use Rattle.vk_judge.specs.Behind.{Judges, in_part}
-use Rattle.vk_judge.specs.Begun.{begun_file, from_start, of_attempt, three_rests}
-use Rattle.vk_judge.proofs.Attempts.{attempt_begun, files_begun}
-use Rattle.vk_judge.specs.Begun.{five_rests, of_files}
+use Rattle.vk_judge.specs.declared.opened.Opened.{Opened}
+use Rattle.vk_judge.specs.declared.opened.Refusal.{Refusal}
+use Rattle.vk_judge.specs.Behind.{and_rest, in_part}
+use Rattle.vk_judge.specs.Begun.{begun_file, five_rests, from_start, of_attempt, of_files, three_rests}
+use Rattle.vk_judge.specs.Opened.{file_judged, in_file}
 use Rattle.vk_judge.specs.Statement.{StatementValue, IsStatement}
+use Rattle.vk_judge.proofs.Attempts.{attempt_begun, files_begun}
+use Rattle.vk_judge.proofs.Steps.{read_ok, value_same}
 use Rattle.vk_bids.specs.declared.bids.LaneBids.{LaneBids}
 use Rattle.vk_bids.specs.declared.extraction.Extraction.TheVariants.{Refused, Same, Clash, Bids}
-use Rattle.vk_bids.specs.LaneExtraction.{AreOf, LaneExtraction, OpensLanes}
+use Rattle.vk_bids.specs.FileExtraction.{FileExtraction, OpensFile, file_extraction, file_of}
 use Rattle.vk_bids.specs.Opening.{LaneOpens}
 use Rattle.vk_form_tests.specs.declared.form.SumHead.{SumHead}
 use Rattle.vk_form_tests.specs.Sums.{SumTo, sum_plan}
 use Rattle.vk_form_tests.specs.SumLaws.{sum_is_plan, sum_sound}
 use Rattle.vk_form_tests.specs.Forms.{IsSumHead, sum_head_at}
 use Rattle.vk_form_tests.proofs.Forms.{head_is_part}
-use Rattle.vk_form_tests.specs.Judging.{Begins, IsOfHead, LaneSums, OpensSums, statement_at, sum_extraction, sum_extraction_on, sum_judged, sum_judged_on, sum_statement}
+use Rattle.vk_form_tests.specs.Judging.{Begins, IsSum, LaneSums, OpensSums, opened_at, opened_sum, sum_extraction_on, sum_front_at, sum_judged_on, sum_statement}
 
 pub statement_right : (head : SumHead) (seals : List SealLines) → IsSumHead head
     → AreSealsOf 3 2 seals
@@ -54,64 +56,65 @@ lane_sums s head lane right is opens =
           (ap (λ p. take p.inputs opens.values) (sym plan) ∙ opens.inputs) claim;
     }
 
-pub sums_opened : (IsSuch : SumHead → Type 0) (s : StatementValue) (found : LaneExtraction)
+-- of a file whose head is such
+sums_such : (IsSuch : SumHead → Type 0) (opened : Result (Opened SumHead) (Refusal Unit))
+    (found : FileExtraction SumHead Unit)
     → ((head : SumHead) → IsSuch head → IsSumHead head)
-    → IsOfHead IsSuch s → AreOf s found → OpensLanes found → OpensSums IsSuch found
-sums_opened IsSuch s (Refused second fault) right front are opens = tt
-sums_opened IsSuch s Same right front are opens = tt
-sums_opened IsSuch s (Clash two) right front are opens = tt
-sums_opened IsSuch s (Bids opened) right front are opens =
-    let here = subst (IsOfHead IsSuch) (sym are) front in
+    → IfOk opened (IsSum IsSuch) → OpensFile opened found → OpensSums IsSuch found
+sums_such IsSuch opened (Refused second fault) right such opens = tt
+sums_such IsSuch opened Same right such opens = tt
+sums_such IsSuch opened (Clash two) right such opens = tt
+sums_such IsSuch opened (Bids found) right such opens =
+    let front = subst (λ o. IfOk o (IsSum IsSuch)) opens.such such in
     record {
-      front = here;
-      lanes = λ k d h. lane_sums opened.statement here.head (slice_index_or opened.lanes k d)
-          (right here.head here.such) here.is (opens.1 k d h);
+      front = front;
+      lanes = λ k d h. lane_sums found.opened.statement found.head
+          (slice_index_or found.opened.lanes k d)
+          (right found.head front.such) front.is (opens.lanes k d h);
     }
+
+pub sums_opened : (opened : Result (Opened SumHead) (Refusal Unit))
+    (found : FileExtraction SumHead Unit)
+    → IfOk opened (IsSum IsSumHead) → OpensFile opened found → OpensSums IsSumHead found
+sums_opened opened found such opens =
+    sums_such IsSumHead opened found (λ head right. right) such opens
 
 -- ---- by the file
 
-value_same : {X E : Type 0} (x y : X) → ◌≡◌ {A = Result X E} (Ok x) (Ok y) → x ≡ y
-value_same x y same = cc
-
-in_part_then : {X Y : Type 0} (read : Result X ℕ) (next : X → Result Y Fault) (y : Y)
-    → (in_part part.Board read >>= next) ≡ Ok y
-    → (x : X) × (read ≡ Ok x) × (next x ≡ Ok y)
-in_part_then (Ok x) next y ok = (x, refl, ok)
-in_part_then (Err line) next y ok = cc
-
-pub front_begins : (rest after : Rest) (s : StatementValue) → statement_at rest ≡ Ok (s, after)
-    → IsOfHead (Begins rest.left) s
-unfolding statement_at
-front_begins rest after s read =
-    let head = in_part_then (sum_head_at rest)
+front_begins : (rest after : Rest) (opened : Opened SumHead) → opened_at rest ≡ Ok (opened, after)
+    → IsSum (Begins rest.left) opened
+unfolding opened_at
+front_begins rest after opened read =
+    let head = read_ok part.Board (sum_head_at rest)
     (λ head. in_part part.Board (seal_lines_at 3 2 head.1) >>= λ seals.
-    Ok (sum_statement head.0 seals.0, seals.1)) (s, after) read in
-    let seals = in_part_then (seal_lines_at 3 2 head.0.1)
-    (λ seals. Ok (sum_statement head.0.0 seals.0, seals.1)) (s, after) head.2 in
+    Ok (opened_sum head.0 seals.0, seals.1)) (opened, after) read in
+    let seals = read_ok part.Board (seal_lines_at 3 2 head.0.1)
+    (λ seals. Ok (opened_sum head.0.0 seals.0, seals.1)) (opened, after) head.2 in
     let shown = head_is_part.shown rest head.0.0 head.0.1 head.1 in
-    let same : sum_statement head.0.0 seals.0.0 ≡ s =
-    ap (λ p. p.0) (value_same (sum_statement head.0.0 seals.0.0, seals.0.1) (s, after) seals.2)
+    let same : opened_sum head.0.0 seals.0.0 ≡ opened =
+    ap (λ p. p.0) (value_same (opened_sum head.0.0 seals.0.0, seals.0.1) (opened, after) seals.2)
     in
-    record {
-      head = head.0.0;
+    subst (IsSum (Begins rest.left)) same (record {
       such = record { right = shown.0; more = head.0.1.left; text = shown.1 };
-      is = sym same ∙ ap (λ seals. sum_statement head.0.0 seals) (ap (λ s. s.seals) same);
-    }
+      is = refl;
+    })
 
--- what was read of the front, where that is known to be a statement
-pub read_known : (known : Result StatementValue Fault) (read : Result StatementValue (Halt Fault))
-    (s : StatementValue)
-    → IfOk known (λ s. read ≡ Ok s) → known ≡ Ok s → read ≡ Ok s
-read_known known read s is same = subst (λ k. IfOk k (λ s. read ≡ Ok s)) same is
+known_begins : (rest after : Rest) (read : Result (Opened SumHead × Rest) Fault)
+    (opened : Result (Opened SumHead) (Refusal Unit)) → opened_at rest ≡ read
+    → ◌≡◌ {A = Result (Opened SumHead × Rest) (Refusal Unit)} (in_file read) (and_rest opened after)
+    → IfOk opened (IsSum (Begins rest.left))
+known_begins rest after (Ok found) (Ok opened) is told =
+    front_begins rest after opened
+    (is ∙ ap (λ x. Ok x) (value_same found (opened, after) told))
+known_begins rest after (Err fault) (Ok opened) is told = cc
+known_begins rest after read (Err refusal) is told = tt
 
-pub sums_of_file : (rest after : Rest) (s : StatementValue)
-    (read : Result StatementValue (Halt Fault)) (found : LaneExtraction) → read ≡ Ok s
-    → Judges (λ s. (s, after)) read (statement_at rest) → AreOf s found → OpensLanes found
-    → OpensSums (Begins rest.left) found
-sums_of_file rest after s read found is told are opens =
-    let front = front_begins rest after s
-    (subst (λ r. Judges (λ s. (s, after)) r (statement_at rest)) is told) in
-    sums_opened (Begins rest.left) s found (λ head begins. begins.right) front are opens
+pub sums_of_file : (rest after : Rest) (opened : Result (Opened SumHead) (Refusal Unit))
+    (found : FileExtraction SumHead Unit) → sum_front_at rest ≡ and_rest opened after
+    → OpensFile opened found → OpensSums (Begins rest.left) found
+sums_of_file rest after opened found told opens =
+    sums_such (Begins rest.left) opened found (λ head begins. begins.right)
+    (known_begins rest after (opened_at rest) opened refl told) opens
 
 short_file : (bytes : List ℕ) (long : Bool) (rest : Rest) (refusal : VErr)
     → ◌≡◌ {A = Result Rest VErr} (if long then Err refusal else Ok (from_start bytes)) (Ok rest)
@@ -119,7 +122,7 @@ short_file : (bytes : List ℕ) (long : Bool) (rest : Rest) (refusal : VErr)
 short_file bytes true rest refusal ok = cc
 short_file bytes false rest refusal ok = value_same (from_start bytes) rest ok
 
-pub sums_of_begun : (file : Option (List ℕ)) (rest : Rest) (found : LaneExtraction)
+pub sums_of_begun : (file : Option (List ℕ)) (rest : Rest) (found : FileExtraction SumHead Unit)
     → begun_file part.Board file ≡ Ok rest
     → OpensSums (Begins rest.left) found → IfSome file (λ file. OpensSums (Begins file) found)
 sums_of_begun None rest found is sums = tt
@@ -132,15 +135,15 @@ sums_of_begun (Some bytes) rest found is sums =
 pub sum_begun : (files : Files) (file challenge reply : List ℕ)
     → sum_judged_on files file challenge reply
     ≡ (of_attempt three_rests files file challenge reply >>= λ rests.
-    Ok (sum_judged rests.0 rests.1 rests.2))
+    Ok (file_judged sum_front_at rests.0 rests.1 rests.2))
 unfolding sum_judged_on
-sum_begun files file challenge reply = attempt_begun sum_judged files file challenge reply
+sum_begun = attempt_begun (file_judged sum_front_at)
 
 -- five files that are begun, and then extracted
 pub sum_extraction_begun : (files : Files)
     (file first_challenge first_reply second_challenge second_reply : List ℕ)
     → sum_extraction_on files file first_challenge first_reply second_challenge second_reply
     ≡ (of_files five_rests files file first_challenge first_reply second_challenge second_reply >>=
-    λ rests. Ok (sum_extraction rests.0 rests.1 rests.2 rests.3 rests.4))
+    λ rests. Ok (file_extraction sum_front_at rests.0 rests.1 rests.2 rests.3 rests.4))
 unfolding sum_extraction_on
-sum_extraction_begun = files_begun sum_extraction
+sum_extraction_begun = files_begun (file_extraction sum_front_at)

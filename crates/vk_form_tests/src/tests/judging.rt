@@ -6,7 +6,7 @@ use std::process::Abort;
 use std::test::Fail;
 use vk_bids::{Extraction, LaneBids};
 use vk_io::MemShelf;
-use vk_judge::{Fault, OneReply, Part, TwoReplies};
+use vk_judge::{Fault, OneReply, Part, Refusal, TwoReplies};
 use vk_wire::WireFault;
 
 /// Whether the lane opens these numbers, in the order of the seals.
@@ -37,15 +37,15 @@ fn try_accepted(rt: &impl Abort, alloc: Global, shelf: &mut MemShelf) -> Result<
     assert!(rt; judge(alloc, shelf, &named("file", "01", "to 01"))?.is_ok());
     assert!(rt; judge(alloc, shelf, &named("file", "10", "to 10"))?.is_ok());
     let names = TwoReplies {
-        board: "file",
+        file: "file",
         challenge1: "01",
         reply1: "to 01",
         challenge2: "10",
         reply2: "to 10",
     };
     match extract(alloc, shelf, &names)? {
-        Extraction::Bids(opened) => {
-            try_opened(rt, opened.lanes.as_slice());
+        Extraction::Bids(found) => {
+            try_opened(rt, found.opened.lanes.as_slice());
             Ok(())
         }
         _ => Err("no lanes".into()),
@@ -65,7 +65,7 @@ fn a_wrong_opening_is_refused_at_its_wire(rt: HostRuntime) -> Result<(), Fail> {
         wire: 3,
         fault: WireFault::Digest { second: false },
     };
-    assert!(rt; judge(rt.alloc(), &mut shelf, &named("file", "01", "other"))? == Err(fault));
+    assert!(rt; judge(rt.alloc(), &mut shelf, &named("file", "01", "other"))? == Err(Refusal::Fault(fault)));
     Ok(())
 }
 
@@ -80,6 +80,6 @@ fn a_total_above_21_is_the_fault_line(rt: HostRuntime) -> Result<(), Fail> {
         part: Part::Board,
         line: 3,
     };
-    assert!(rt; judge(rt.alloc(), &mut shelf, &named("file", "file", "file"))? == Err(fault));
+    assert!(rt; judge(rt.alloc(), &mut shelf, &named("file", "file", "file"))? == Err(Refusal::Fault(fault)));
     Ok(())
 }
