@@ -1,12 +1,10 @@
 -- The values that are gathered are inputs for which the circuit holds.
-use Rattle.std.proofs.Common.{◌≡◌, All, List, [], ◌++◌, Option, Some, None, IfSome, sym, subst, ◌∙◌}
+use Rattle.std.proofs.Common.{◌≡◌, All, List, [], ◌++◌, Option, Some, None, IfSome, sym, subst}
 use Rattle.std.specs.Option.{option_to_list}
 use Rattle.std.proofs.lemmas.List.Elements.{All-nil, All-cons, All-append}
 use Rattle.vk_judge.specs.Statement.{StatementValue}
 use Rattle.vk_judge.specs.declared.stage.Base.{Base}
 use Rattle.vk_bids.specs.declared.bids.LaneBids.{LaneBids}
-use Rattle.vk_bids.specs.declared.extraction.Extraction.TheVariants.{Refused, Same, Clash, Bids}
-use Rattle.vk_bids.specs.LaneExtraction.{AreOf, AreOfBase, LaneExtraction}
 use Rattle.vk_bids.specs.Opening.{LaneOpens}
 
 found_opens : (s : StatementValue) (found : Option LaneBids) → IfSome found (LaneOpens s)
@@ -33,13 +31,3 @@ by_statement None statement before after is step = tt
 by_statement (Some base) statement before after is step =
     let P : StatementValue → Type 0 = λ s. All (LaneOpens s) before → All (LaneOpens s) after in
     subst P (sym is) step
-
--- what is opened after a base is of its statement
-pub are_of : (s : StatementValue) (base : Option Base) (found : LaneExtraction)
-    → IfSome base (λ b. b.statement ≡ s) → AreOfBase base found
-    → AreOf s found
-are_of s base (Refused second fault) read of_base = tt
-are_of s base Same read of_base = tt
-are_of s base (Clash two) read of_base = tt
-are_of s None (Bids opened) read of_base = absurd of_base
-are_of s (Some base) (Bids opened) read of_base = sym of_base ∙ read

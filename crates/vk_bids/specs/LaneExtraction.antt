@@ -44,10 +44,6 @@ OpensLanes = OfBids (λ opened. IsStatement opened.statement
 abbrev pub AreOfBase : Option Base → LaneExtraction → Type 0
 AreOfBase base = OfBids (λ opened. IsSomeAnd base (λ base. base.statement ≡ opened.statement))
 
--- the lanes are those of this statement
-abbrev pub AreOf : StatementValue → LaneExtraction → Type 0
-AreOf s = OfBids (λ opened. opened.statement ≡ s)
-
 -- what is found and gathered in the end is what was ahead
 pub record ComesTo (base : Option Base) (ahead : Ahead Fault) (found : Option (Finding Fault))
     (gathered : Result (List LaneBids) TwoOpeningsSeen) : Type 0 where

@@ -2,9 +2,9 @@
 ghost use Rattle.std.specs.Prelude.{◌≡◌, All, IfOk, IfSome, IsErrOf, IsSomeAnd};
 ghost use Rattle.vk_io.specs.Reads.{OnlyReads};
 ghost use Rattle.vk_judge.specs.Statement.{IsStatement};
-ghost use Rattle.vk_judge.specs.Two.{IsOver, ahead_of, base_of, finding_of, given_of, of_two};
+ghost use Rattle.vk_judge.specs.Two.{IsOver, ahead_of, base_of, finding_of, given_of};
 ghost use Rattle.vk_judge.specs.Wanting.{MemoryWasWanting};
-ghost use Rattle.vk_bids.specs.LaneExtraction.{AreOf, AreOfBase, ComesTo, OpensLanes, lane_extraction, lane_extraction_behind, opened_of};
+ghost use Rattle.vk_bids.specs.LaneExtraction.{AreOfBase, ComesTo, OpensLanes, lane_extraction, opened_of};
 ghost use Rattle.vk_bids.specs.Extractions.{found_by, given_by};
 ghost use Rattle.vk_bids.specs.Opening.{LaneOpens};
 
@@ -13,7 +13,7 @@ use crate::extraction::Extraction;
 use crate::gathering::{Gathered, with_lane};
 use std::alloc::Global;
 use vk_io::{OutsideErr, Shelf};
-use vk_judge::{Fault, Finding, LaneChecker, Statement, TwoAttempts};
+use vk_judge::{Fault, Finding, LaneChecker, Statement};
 use vk_seq::Seq;
 
 /// What two accepted replies open behind a front.
@@ -26,28 +26,6 @@ pub struct OpenedLanes {
 
 /// What two replies come to behind a front.
 pub type LaneExtraction = Extraction<Fault, OpenedLanes>;
-
-/// What two replies come to behind a front of which this is the statement; the file is read up to
-/// its first lane.
-///
-/// Errs where the shelf fails, and for want of memory.
-pub fn extract_behind<S: Shelf>(
-    alloc: Global,
-    shelf: &mut S,
-    statement: Statement,
-    two: TwoAttempts,
-) -> Result<LaneExtraction, OutsideErr>
-    ensures modelled { IfOk result (λ found. IfSome (S.held shelf.old) (λ files.
-        of_two (lane_extraction_behind statement) two files ≡ found)) }
-    ensures opens { IfOk result OpensLanes }
-    ensures statement { IfOk result (AreOf statement) }
-    ensures wanting { IsErrOf result OutsideErr.NoMemory → MemoryWasWanting }
-    ensures shelf { OnlyReads S.held S.Shelf.faults OutsideErr.Failed result shelf.old shelf.new }
-{
-    let checker = LaneChecker::begin(alloc, shelf, statement, two)?;
-    let found = extract_lanes(alloc, shelf, checker)?;
-    Ok(found)
-}
 
 /// What the replies come to that a checker before its first lane reads: each file is read to its
 /// end or to its first fault, and a fault of any comes before a clash. At most 64 lanes are kept.

@@ -155,29 +155,29 @@ module _ {F : Type 0} {fronts : Fronts F} {file : List ℕ} where
       → List Shown
   shown_in accepted number = shown_behind accepted.behind number
 
-  module _ {challenge reply other second : List ℕ} (one : Accepts fronts file challenge reply)
-      (two : Accepts fronts file other second) where
-    -- the lane of that number, with what each reply shows of it for its challenge's bit
-    abbrev pub two_lane_in : ℕ → TwoLane
-    two_lane_in number = record {
-      case = case_in one number;
-      first_bit = bit_of one.behind.challenge number;
-      first = shown_in one number;
-      second_bit = bit_of two.behind.challenge number;
-      second = shown_in two number;
-    }
+module _ {F : Type 0} {fronts : Fronts F} {file challenge reply other second : List ℕ} (one : Accepts fronts file challenge reply)
+    (two : Accepts fronts file other second) where
+  -- the lane of that number, with what each reply shows of it for its challenge's bit
+  abbrev pub two_lane_in : ℕ → TwoLane
+  two_lane_in number = record {
+    case = case_in one number;
+    first_bit = bit_of one.behind.challenge number;
+    first = shown_in one number;
+    second_bit = bit_of two.behind.challenge number;
+    second = shown_in two number;
+  }
 
-    -- both were accepted with one file
-    pub record AreOfOneFile : Type 0 where
-      pub one_front : two.front ≡ one.front
-      pub one_lines : two.behind.lines ≡ one.behind.lines
+  -- both were accepted with one file
+  pub record AreOfOneFile : Type 0 where
+    pub one_front : two.front ≡ one.front
+    pub one_lines : two.behind.lines ≡ one.behind.lines
 
-    -- what is given: the lanes 1, 2, .. of the file, and what is found by the challenges
-    pub record GivesValues {V : Type 0} (ahead : Ahead V) : Type 0 where
-      pub one_each : length ahead.lanes ≡ (fronts.statement one.front).lanes
-      pub each : (index : ℕ) (lane : TwoLane) → slice_get ahead.lanes index ≡ Some lane
-          → lane ≡ two_lane_in (index + 1)
-      pub finding : ahead.finding ≡ accepted_of (bits_of one) (bits_of two)
+  -- what is given: the lanes 1, 2, .. of the file, and what is found by the challenges
+  pub record GivesValues {V : Type 0} (ahead : Ahead V) : Type 0 where
+    pub one_each : length ahead.lanes ≡ (fronts.statement one.front).lanes
+    pub each : (index : ℕ) (lane : TwoLane) → slice_get ahead.lanes index ≡ Some lane
+        → lane ≡ two_lane_in (index + 1)
+    pub finding : ahead.finding ≡ accepted_of (bits_of one) (bits_of two)
 
 -- the head of the file, what its lanes are to show, and the bits of both challenges
 abbrev pub base_of_file : {F H R : Type 0} (form : Form F H R)

@@ -1,6 +1,6 @@
 // Two replies to the smallest board, side by side; and a file that isn't held.
 ghost use Rattle.std.specs.Prelude.{◌≡◌, IfOk, false};
-ghost use Rattle.vk_verifier.specs.TwoBoards.{IsBoardOver};
+ghost use Rattle.vk_judge.specs.Opened.{IsCheckedOver};
 
 use super::files::shelf_of_files;
 use std::alloc::Global;
@@ -24,7 +24,7 @@ fn stepped(
     shelf: &mut MemShelf,
     checker: TwoChecker,
 ) -> Result<(TwoChecker, bool), OutsideErr>
-    ensures { IfOk result (λ next. next.1 ≡ false → IsBoardOver next.0) }
+    ensures { IfOk result (λ next. next.1 ≡ false → IsCheckedOver next.0) }
 {
     let (checker, lane) = checker.next_lane(alloc, shelf)?;
     Ok((checker, lane.is_some()))
@@ -32,7 +32,7 @@ fn stepped(
 
 /// What is found once no lane is given any more.
 fn finding(checker: TwoChecker) -> TwoVerdict
-    requires { IsBoardOver checker }
+    requires { IsCheckedOver checker }
 {
     checker.finding()
 }

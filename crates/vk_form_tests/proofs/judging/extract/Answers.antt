@@ -7,8 +7,8 @@ use Rattle.vk_bids.proofs.Leading.{both_held}
 use Rattle.vk_form_tests.proofs.Opening.{sums_of_begun, sums_of_file}
 use Rattle.vk_form_tests.proofs.judging.extract.Goals as goal
 
-pub returns-in_ok-found-clause-of_file : goal.returns-in_ok-found-clause-of_file
-returns-in_ok-found-clause-of_file g c =
+pub returns-clause-of_file : goal.returns-clause-of_file
+returns-clause-of_file g c =
     let names = c.args.names.now in
     let two = c.in_ok-two.two in
     let found = c.in_ok-found.found in
