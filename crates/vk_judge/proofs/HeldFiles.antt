@@ -11,7 +11,7 @@ use Rattle.vk_judge.specs.declared.answers.VErr.{VErr}
 use Rattle.vk_judge.specs.declared.answers.VErr.TheVariants.{TooLong}
 use Rattle.vk_judge.specs.Begun.{of_files}
 use Rattle.vk_judge.specs.Begun.{begun_file, from_start}
-use Rattle.vk_judge.specs.HeldFiles.{AreOfHeld, ComesOfHeld, HeldAttempt, HeldFiles, IsHeldFile}
+use Rattle.vk_judge.specs.HeldFiles.{AreOfHeld, HeldAttempt, HeldFiles, IsHeldFile}
 use Rattle.vk_judge.proofs.Steps.{value_same}
 
 -- the file is held, and what comes next goes from the start of its bytes

@@ -1,9 +1,8 @@
 -- What named files come to is what their bytes do, where all are held and none is too long.
-use Rattle.std.specs.Prelude.{◌≡◌, ◌↔◌, ℕ, ◌^◌, ◌≤◌, List, length, Some, Result, Ok}
+use Rattle.std.specs.Prelude.{◌≡◌, ◌↔◌, ℕ, ◌^◌, ◌≤◌, List, length, Some, Ok}
 use Rattle.std.specs.FinMap.{get}
 use Rattle.vk_io.specs.Files.{Files}
 use Rattle.vk_lines.specs.Lines.{Rest}
-use Rattle.vk_judge.specs.declared.answers.VErr.{VErr}
 use Rattle.vk_judge.specs.Begun.{from_start, of_files}
 
 -- the file is held with these bytes, at most 2^30
