@@ -35,7 +35,7 @@ FOREIGN = ("vk_verifier/", "vk_judge/", "vk_row/", "vk_plan/", "vk_range/", "vk_
 GROUPS = (
     ("What is promised", (RUN, "vk_app/specs/Promises", "vk_bids/specs/Soundness", "vk_io/")),
     ("The board's text", ("vk_bids/specs/Soundness BeginsWithFront", "vk_board/", "vk_wire/")),
-    ("The challenges", ("vk_reply/", "vk_bids/specs/Headline")),
+    ("The challenges", ("vk_reply/", "vk_bids/specs/OpenedBehind")),
     ("Bids and seals", ("vk_bids/src/bids.rt", "vk_bids/specs/Outcome", "vk_bids/specs/Opening")),
     ("The sale", ("vk_vickrey/",)),
     ("Commitments", ("vk_commit/",)),
