@@ -1,11 +1,9 @@
 -- What two replies to a board come to, from what they come to of a file.
-use Rattle.std.proofs.Common.{◌≡◌, ℕ, All, List, Option, Some, None, IfSome, refl, sym, ap, subst, ◌∙◌}
-use Rattle.std.specs.Prelude.{IsSomeAnd}
+use Rattle.std.proofs.Common.{◌≡◌, ℕ, All, List, Option, Some, None, refl, sym, ap, subst, ◌∙◌}
 use Rattle.std.proofs.lemmas.List.Elements.{All-weaker}
 use Rattle.vk_board.specs.declared.front.Front.{Front}
 use Rattle.vk_board.specs.Fronts.{IsFront}
-use Rattle.vk_judge.specs.declared.opened.Opened.{Opened}
-use Rattle.vk_judge.specs.Opened.{FileBase, opened_in}
+use Rattle.vk_judge.specs.Opened.{FileBase}
 use Rattle.vk_judge.specs.Statement.{StatementValue}
 use Rattle.vk_verifier.specs.declared.answers.BoardRefusal.{BoardRefusal}
 use Rattle.vk_verifier.specs.declared.boards.PlacedHead.{PlacedHead}
@@ -15,8 +13,8 @@ use Rattle.vk_verifier.specs.Verdicts.{IsBoard, board_front, board_front_at, pla
 use Rattle.vk_verifier.proofs.Verdicts.{is_form}
 use Rattle.vk_bids.specs.declared.bids.LaneBids.{LaneBids}
 use Rattle.vk_bids.specs.declared.extraction.Extraction.TheVariants.{Refused, Same, Clash, Bids}
-use Rattle.vk_bids.specs.Extraction.{AreOfBoard, Extraction, Shows, as_extraction, extraction_in}
-use Rattle.vk_bids.specs.FileExtraction.{FileExtraction, OpensBase, OpensValuesOf, file_extraction_in, file_of}
+use Rattle.vk_bids.specs.Extraction.{AreOfBoard, Extraction, Shows, as_extraction}
+use Rattle.vk_bids.specs.FileExtraction.{FileExtraction, OpensBase, file_extraction_in, file_of}
 use Rattle.vk_bids.specs.FileHeadline.{IsOfFile}
 use Rattle.vk_bids.specs.Headline.{AcceptedAreExtracted, IsFound, IsOf, OnlyAcceptedAreExtracted, SameIsFound, TwoAccepted}
 use Rattle.vk_bids.specs.Opening.{LaneOpens}

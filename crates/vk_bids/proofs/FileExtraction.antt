@@ -1,8 +1,6 @@
 -- What two replies to a file come to, from what they come to behind its front.
-use Rattle.std.proofs.Common.{◌≡◌, All, List, [], Option, Some, None, IfSome, IfOk, option_map, Result, Ok, Err, refl, sym, subst, ap, ◌∙◌}
-use Rattle.std.specs.Prelude.{IsSomeAnd}
+use Rattle.std.proofs.Common.{◌≡◌, List, [], Option, Some, None, IfSome, option_map, Result, Ok, Err, refl, sym, subst, ap, ◌∙◌}
 use Rattle.vk_commit.specs.Commitment.{TwoOpeningsSeen}
-use Rattle.vk_io.specs.Files.{Files}
 use Rattle.vk_judge.specs.declared.answers.Fault.{Fault}
 use Rattle.vk_judge.specs.declared.checker.FileCourse.{FileCourse}
 use Rattle.vk_judge.specs.declared.opened.Opened.{Opened}
@@ -12,8 +10,8 @@ use Rattle.vk_judge.specs.declared.stage.Finding.{Finding}
 use Rattle.vk_judge.specs.declared.stage.Finding.TheVariants as ends
 use Rattle.vk_judge.specs.declared.stage.TwoLane.{TwoLane}
 use Rattle.vk_judge.specs.Statement.{StatementValue}
-use Rattle.vk_judge.specs.Two.{Ahead, ahead_of, base_of}
-use Rattle.vk_judge.specs.Opened.{Checked, FileBase, as_found, checked_base, coming_of, coming_with, opened_in, with_head}
+use Rattle.vk_judge.specs.Two.{Ahead, base_of}
+use Rattle.vk_judge.specs.Opened.{Checked, FileBase, as_found, checked_base, coming_with, opened_in, with_head}
 use Rattle.vk_bids.specs.declared.bids.LaneBids.{LaneBids}
 use Rattle.vk_bids.specs.declared.extraction.Extraction.TheVariants.{Refused, Same, Clash, Bids}
 use Rattle.vk_bids.specs.Extractions.{found_by, gathered_after, given_by}

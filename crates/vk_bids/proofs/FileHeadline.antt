@@ -1,6 +1,6 @@
 -- Two replies to a file of any form that are accepted for different challenges give values for which
 -- its circuit holds, or a clash. Only such replies do.
-use Rattle.std.proofs.Common.{◌≡◌, ℕ, Bool, true, false, List, Option, Some, None, IsSome, option_map, Result, Ok, Err, refl, sym, ap, subst, ◌∙◌}
+use Rattle.std.proofs.Common.{◌≡◌, ℕ, Bool, true, false, List, Option, Some, None, IsSome, Result, Ok, Err, refl, sym, ap, subst, ◌∙◌}
 use Rattle.std.specs.Prelude.{◌≢◌}
 use Rattle.vk_commit.specs.Commitment.{TwoOpeningsSeen}
 use Rattle.vk_lines.specs.Lines.{Rest}
@@ -10,13 +10,12 @@ use Rattle.vk_judge.specs.declared.stage.Finding.{Finding}
 use Rattle.vk_judge.specs.declared.stage.Finding.TheVariants as ends
 use Rattle.vk_judge.specs.Acceptance.{AcceptsBehind}
 use Rattle.vk_judge.specs.Begun.{from_start}
-use Rattle.vk_judge.specs.FileForms.{Accepts, Form, IsForm, bits_of, opened_of}
+use Rattle.vk_judge.specs.FileForms.{Accepts, Form, IsForm, bits_of}
 use Rattle.vk_judge.specs.Opened.{Coming, FileBase, coming_in}
 use Rattle.vk_judge.specs.Two.{BothAreAccepted, accepted_of, ahead_behind, base_behind, base_in, same_bits}
 use Rattle.vk_judge.proofs.FileForms.{accepted_front, accepted_give, on_one, only_accepted_give}
 use Rattle.vk_bids.specs.declared.bids.LaneBids.{LaneBids}
 use Rattle.vk_bids.specs.declared.extraction.Extraction.TheVariants.{Refused, Same, Clash, Bids}
-use Rattle.vk_bids.specs.declared.file_extraction.OpenedFile.{OpenedFile}
 use Rattle.vk_bids.specs.Extractions.{IsFound, found_by, gathered_after, given_by}
 use Rattle.vk_bids.specs.FileExtraction.{FileExtraction, IsFoundBy, extraction_past, extraction_with, file_extraction_in, opened_by}
 use Rattle.vk_bids.specs.FileHeadline.{AcceptedOpen, ExtractsByFinding, IsOfFile, OnlyAcceptedOpenFile, SameAccepted, SameIsFoundOfFile, TwoAccepted}

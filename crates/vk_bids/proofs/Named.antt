@@ -6,7 +6,7 @@ use Rattle.vk_lines.specs.Gives.{Gives}
 use Rattle.vk_judge.specs.declared.answers.VErr.{VErr}
 use Rattle.vk_judge.specs.declared.answers.VErr.TheVariants.{Missing, TooLong, Failed, NoMemory}
 use Rattle.vk_judge.specs.Begun.{five_rests, of_files, unread_file}
-use Rattle.vk_judge.specs.Opened.{Checked, Coming, coming_of, file_coming}
+use Rattle.vk_judge.specs.Opened.{Checked, coming_of, file_coming}
 use Rattle.vk_judge.proofs.Attempts.{files_begun}
 use Rattle.vk_judge.proofs.HeldFiles.{are_of_held}
 use Rattle.vk_verifier.specs.declared.answers.BoardRefusal.{BoardRefusal}

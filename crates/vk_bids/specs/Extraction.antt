@@ -1,6 +1,6 @@
 -- What two replies to a board come to: one of them isn't accepted, the challenges are the same, two
 -- openings of one commitment, or bids.
-use Rattle.std.specs.Prelude.{◌≡◌, ℕ, All, List, Result}
+use Rattle.std.specs.Prelude.{ℕ, All, List, Result}
 use Rattle.vk_io.specs.Files.{Files}
 use Rattle.vk_lines.specs.Lines.{Rest}
 use Rattle.vk_board.specs.declared.front.Front.{Front}

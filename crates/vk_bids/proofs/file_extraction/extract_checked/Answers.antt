@@ -1,6 +1,6 @@
 use Rattle.std.proofs.Common.{rules, subst, sym}
 use Rattle.vk_judge.specs.Opened.{checked_base}
-use Rattle.vk_bids.specs.FileExtraction.{FileExtraction, OpensBase}
+use Rattle.vk_bids.specs.FileExtraction.{OpensBase}
 use Rattle.vk_bids.proofs.FileExtraction.{course_opens}
 use Rattle.vk_bids.proofs.file_extraction.extract_checked.Goals as goal
 
