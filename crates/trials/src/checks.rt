@@ -1,6 +1,6 @@
 // Two replies to a claim file, read lane by lane by the checker of claims, which no command calls.
 ghost use Rattle.std.specs.Prelude.{◌≡◌, IfOk, false, true};
-ghost use Rattle.vk_claim.specs.Two.{HasClaim, IsClaimOver};
+ghost use Rattle.vk_judge.specs.Opened.{HasOpened, IsCheckedOver};
 
 use crate::bench::{Bench, Sizes, push_sizes};
 use crate::parts::{cut, name_of};
@@ -8,11 +8,11 @@ use crate::text::Text;
 use std::alloc::Global;
 use vk_audit::same_challenge;
 use vk_cases::{Tried, Unreplayed, read_cases};
-use vk_claim::{ClaimChecker, ClaimFinding, ClaimVerdict};
-use vk_claims::{ClaimCircuits, claim_judged};
+use vk_claim::{ClaimChecker, ClaimFinding, ClaimRefusal, ClaimVerdict, claim_verdict};
+use vk_claims::{ClaimCircuits, claim_judged, claim_refused};
 use vk_effect::Said;
 use vk_io::{OutsideErr, PieceShelf, Shelf, Sink};
-use vk_judge::VErr;
+use vk_judge::{Fault, Refusal, VErr};
 use vk_residue::NoMemory;
 use vk_words::{AttemptNames, ExtractNames};
 
@@ -84,12 +84,39 @@ pub fn push_checked(bench: &mut Bench, text: &mut Text, names: &ExtractNames<'_>
     push_attempt(text, names.first);
     push_attempt(text, names.second);
     let (given, finding) = checked(bench.alloc, &mut bench.shelf, text, names)?;
+    if verdict_on_first(bench.alloc, &mut bench.shelf, names)? != first_told(finding) {
+        return Err(Unreplayed::NoCase);
+    }
     text.count(b"lanes", u64::from(given));
     text.word(b"\n");
     let said = said_of(bench.alloc, names, finding)?;
     bench.say(&said)?;
     text.word(bench.said());
     Ok(())
+}
+
+/// The verdict on the first reply by itself.
+fn verdict_on_first(
+    alloc: Global,
+    shelf: &mut PieceShelf,
+    names: &ExtractNames<'_>,
+) -> Tried<ClaimVerdict> {
+    let AttemptNames { challenge, reply } = names.first;
+    match claim_verdict(alloc, shelf, &ClaimCircuits, names.board, challenge, reply) {
+        Ok(verdict) => Ok(verdict),
+        Err(_refused) => Err(Unreplayed::NoCase),
+    }
+}
+
+/// The same by what is found of both.
+fn first_told(finding: ClaimFinding) -> ClaimVerdict {
+    match finding {
+        ClaimFinding::Refused {
+            second: false,
+            verdict,
+        } => verdict,
+        _ => ClaimVerdict::Accepted,
+    }
 }
 
 /// The names of a challenge and of the reply to it.
@@ -167,8 +194,8 @@ fn stepped(
     shelf: &mut PieceShelf,
     checker: ClaimChecker,
 ) -> Result<(ClaimChecker, bool), OutsideErr>
-    ensures some { IfOk result (λ next. next.1 ≡ true → HasClaim next.0) }
-    ensures none { IfOk result (λ next. next.1 ≡ false → IsClaimOver next.0) }
+    ensures some { IfOk result (λ next. next.1 ≡ true → HasOpened next.0) }
+    ensures none { IfOk result (λ next. next.1 ≡ false → IsCheckedOver next.0) }
 {
     let (checker, lane) = checker.next_lane(alloc, shelf)?;
     Ok((checker, lane.is_some()))
@@ -176,7 +203,7 @@ fn stepped(
 
 /// How many wires, rows and inputs the circuit has.
 fn push_shape(text: &mut Text, checker: &ClaimChecker)
-    requires { HasClaim checker.now }
+    requires { HasOpened checker.now }
 {
     let plan = checker.plan();
     push_sizes(
@@ -200,6 +227,25 @@ fn said_of(
         ClaimFinding::Ready => (false, ClaimVerdict::Accepted),
         ClaimFinding::Refused { second, verdict } => (second, verdict),
     };
-    let said = claim_judged(alloc, names, second, verdict)?;
+    let said = match refusal_of(verdict) {
+        Some(refusal) => claim_refused(alloc, names, second, refusal)?,
+        None => claim_judged(alloc, names, Ok(()))?,
+    };
     Ok(said)
+}
+
+/// Why a reply is refused on which this is the verdict; none where it is accepted.
+fn refusal_of(verdict: ClaimVerdict) -> Option<Refusal<ClaimRefusal>> {
+    match verdict {
+        ClaimVerdict::Accepted => None,
+        ClaimVerdict::Public => Some(Refusal::Front(ClaimRefusal::Public)),
+        ClaimVerdict::Malformed { part, line } => {
+            Some(Refusal::Fault(Fault::Malformed { part, line }))
+        }
+        ClaimVerdict::Lanes => Some(Refusal::Fault(Fault::Lanes)),
+        ClaimVerdict::Wire { lane, wire, fault } => {
+            Some(Refusal::Fault(Fault::Wire { lane, wire, fault }))
+        }
+        ClaimVerdict::Row { lane, row } => Some(Refusal::Fault(Fault::Row { lane, row })),
+    }
 }

@@ -5,10 +5,11 @@ use Rattle.std.specs.Prelude.{◌⊎◌, codes, if◌then◌else◌, length, opt
 use Rattle.vk_residue.specs.Steps.{◌>>?◌}
 use Rattle.vk_io.specs.Files.{Files, Modelled}
 use Rattle.vk_keeper.specs.Ledgers.{Ledger}
-use Rattle.vk_bids.specs.Headline.{IsClashBehind, IsExtraction, IsExtractionClash}
+use Rattle.vk_bids.specs.FileHeadline.{IsClashOf}
+use Rattle.vk_bids.specs.Headline.{IsExtraction, IsExtractionClash}
 use Rattle.vk_bids.specs.Texts.{clash_text, extraction_text}
 use Rattle.vk_bids.proofs.Soundness.{begins_with_front, bids_are_told, clash_is_told}
-use Rattle.vk_claim.specs.Headline.{IsClaimOpened}
+use Rattle.vk_claim.specs.Extraction.{IsClaimOpened}
 use Rattle.vk_claim.specs.Printing.{claim_extraction_text}
 use Rattle.vk_claims.specs.Circuits.{admitted_plan, claimed}
 use Rattle.vk_claims.specs.Statuses.{AcceptsTwoClaims, IsClaimExtracted}
@@ -179,19 +180,19 @@ module _ (files : Files) (status : ℕ) (old new : Option (List ℕ)) where
       let two = accepted.two in
       record {
         file = held.file_bytes;
-        front = two.shown.front;
-        first = two.behind.first.challenge;
-        second = two.behind.second.challenge;
+        front = two.first.front.front;
+        first = two.first.behind.challenge;
+        second = two.second.behind.challenge;
         claim_is = held.file_is.is;
         begins = begins_with_claim two;
         first_is = held.first.challenge_is.is
-            ∙ ap (λ bytes. Some bytes) two.behind.first.challenge_is.0;
+            ∙ ap (λ bytes. Some bytes) two.first.behind.challenge_is.0;
         second_is = held.second.challenge_is.is
-            ∙ ap (λ bytes. Some bytes) two.behind.second.challenge_is.0;
+            ∙ ap (λ bytes. Some bytes) two.second.behind.challenge_is.0;
         values = λ zero_is. prints_as (IsClaimOpened admitted_plan claimed two)
             claim_extraction_text _ (values_are_told two) old new
             (done_is _ _ status extracted zero_is);
-        clash = λ three_is. prints_as (IsClashBehind two.behind) clash_text _
+        clash = λ three_is. prints_as (IsClashOf two) clash_text _
             (claims.clash_is_told two) old new (clash_is _ _ status extracted three_is);
       }
 

@@ -1,9 +1,6 @@
 pub mod Forms
 pub mod Faults
 pub mod Named
-pub mod Begun
-pub mod Opening
 pub mod Fronts
-pub mod Exact
-pub mod Headlines
-pub mod TwoLaw
+pub mod Verdicts
+pub mod Opening

@@ -1,40 +1,32 @@
--- When a claim file, a challenge and a reply are accepted, and why they are refused, by whole
--- texts.
-use Rattle.std.specs.Prelude.{◌≡◌, ◌↔◌, ◌⊎◌, ℕ, List, Some, None}
+-- The form of claim files: when one is accepted with a challenge and a reply, and why it is refused,
+-- by whole texts.
+use Rattle.std.specs.Prelude.{◌≡◌, ◌↔◌, ℕ, List, Some, None}
 use Rattle.vk_lines.specs.Forms.{fault_line}
-use Rattle.vk_plan.specs.Plans.{PlanValue}
-use Rattle.vk_judge.specs.declared.answers.Part.TheVariants as part
-use Rattle.vk_judge.specs.declared.answers.Fault.{Fault}
-use Rattle.vk_judge.specs.declared.answers.Fault.TheVariants as behind
-use Rattle.vk_judge.specs.Statement.{StatementValue}
-use Rattle.vk_judge.specs.Acceptance.{AcceptsBehind}
-use Rattle.vk_judge.specs.Refusals.{BeginsWith, FaultHolds}
+use Rattle.vk_judge.specs.FileForms.{Accepts, Form, Fronts, JudgedHolds}
+use Rattle.vk_judge.specs.Refusals.{BeginsWith}
+use Rattle.vk_claim.specs.declared.claim.ClaimRefusal.{ClaimRefusal}
+use Rattle.vk_claim.specs.declared.claim.ClaimRefusal.TheVariants.{Public}
 use Rattle.vk_claim.specs.declared.front.ClaimFront.{ClaimFront}
-use Rattle.vk_claim.specs.declared.verdict.ClaimVerdict.TheVariants.{Accepted, Public}
+use Rattle.vk_claim.specs.declared.head.ClaimHead.{ClaimHead}
+use Rattle.vk_claim.specs.declared.verdict.ClaimVerdict.{ClaimVerdict}
 use Rattle.vk_claim.specs.Values.{IsClaimFront, Plans, plan_for, shape_for}
 use Rattle.vk_claim.specs.Texts.{claim_front_text}
 use Rattle.vk_claim.specs.Tables.{claim_table}
-use Rattle.vk_claim.specs.Verdicts.{as_claim, claim_statement, claim_verdict_of}
+use Rattle.vk_claim.specs.Claims.{IsAdmitted, PlannedFront, claim_at, statement_of}
+use Rattle.vk_claim.specs.Verdicts.{claim_verdict_of, judged_of}
 
--- what stands before the first lane, with a public part that is admitted, and so has a plan
-pub record AdmittedFront (plans : Plans) : Type 0 where
-  pub front : ClaimFront
-  pub right : IsClaimFront front
-  pub plan : PlanValue
-  pub admitted : plan_for plans front.head ≡ Some plan
-
--- what the lanes behind it are to show, and its text
-abbrev pub statement_of : {plans : Plans} → AdmittedFront plans → StatementValue
-statement_of shown = claim_statement shown.front shown.plan
-
-abbrev pub text_of : {plans : Plans} → AdmittedFront plans → List ℕ
-text_of shown = claim_front_text shown.front
+-- the fronts of claim files whose public part is admitted
+abbrev pub claim_fronts : Plans → Fronts PlannedFront
+claim_fronts plans = record {
+  IsRight = IsAdmitted plans;
+  statement = statement_of;
+  text = λ shown. claim_front_text shown.front;
+}
 
 -- the file has a front whose public part is admitted, and behind it the reply is accepted for the
 -- challenge
-pub record ClaimAccepts (plans : Plans) (file challenge reply : List ℕ) : Type 0 where
-  pub shown : AdmittedFront plans
-  pub behind : AcceptsBehind (statement_of shown) (text_of shown) file challenge reply
+abbrev pub ClaimAccepts : Plans → List ℕ → List ℕ → List ℕ → Type 0
+ClaimAccepts plans = Accepts (claim_fronts plans)
 
 -- ---- why files are refused
 
@@ -49,35 +41,36 @@ pub record PublicFails (plans : Plans) (file : List ℕ) : Type 0 where
   pub has_front : HasClaimFront file front
   pub refused : plan_for plans front.head ≡ None
 
+abbrev pub ClaimRefuses : Plans → ClaimRefusal → List ℕ → Type 0
+ClaimRefuses plans Public file = PublicFails plans file
+
 -- which line of a claim file is its fault line
 abbrev pub IsClaimLine : Plans → List ℕ → ℕ → Type 0
 IsClaimLine plans file line = fault_line (claim_table (shape_for plans)) file ≡ Some line
 
--- the file begins with no front, and that is its fault line
-pub record FrontStops (plans : Plans) (file : List ℕ) (fault : Fault) : Type 0 where
-  pub line : ℕ
-  pub is : fault ≡ behind.Malformed part.Board line
+-- that is its fault line, and it begins with no front
+pub record FrontStops (plans : Plans) (file : List ℕ) (line : ℕ) : Type 0 where
   pub fault_line : IsClaimLine plans file line
   pub none : (front : ClaimFront) → ¬ HasClaimFront file front
 
--- the file has a front whose public part is admitted, and this fault behind it
-pub record ClaimFailsBehind (plans : Plans) (file challenge reply : List ℕ) (fault : Fault) : Type 0
-  where
-    pub shown : AdmittedFront plans
-    pub begins : BeginsWith file (text_of shown)
-    pub holds : FaultHolds (statement_of shown) (text_of shown) (IsClaimLine plans file) fault file
-        challenge reply
+-- the form of claim files
+abbrev pub claim_form : Plans → Form PlannedFront ClaimHead ClaimRefusal
+claim_form plans = record {
+  fronts = claim_fronts plans;
+  front_at = claim_at plans;
+  head = λ shown. shown.front.head;
+  Refuses = ClaimRefuses plans;
+  Stops = FrontStops plans;
+  IsLine = IsClaimLine plans;
+}
 
-abbrev pub ClaimFails : Plans → List ℕ → List ℕ → List ℕ → Fault → Type 0
-ClaimFails plans file challenge reply fault = FrontStops plans file fault
-    ⊎ ClaimFailsBehind plans file challenge reply fault
+-- the verdict holds of the files: the reply is accepted, the public part isn't admitted, or there is
+-- this fault
+abbrev pub ClaimVerdictHolds : Plans → ClaimVerdict → List ℕ → List ℕ → List ℕ → Type 0
+ClaimVerdictHolds plans verdict = JudgedHolds (claim_form plans) (judged_of verdict)
 
--- the verdict is that there is no fault exactly where the reply is accepted; that the public part
--- is not admitted exactly where it isn't; and each fault exactly where it holds. There is no other
--- verdict
-pub record ClaimVerdictsAreExact (plans : Plans) (file challenge reply : List ℕ) : Type 0 where
-  pub accepted : (claim_verdict_of plans file challenge reply ≡ Accepted)
-      ↔ ClaimAccepts plans file challenge reply
-  pub public : (claim_verdict_of plans file challenge reply ≡ Public) ↔ PublicFails plans file
-  pub fault : (fault : Fault) → (claim_verdict_of plans file challenge reply ≡ as_claim fault)
-      ↔ ClaimFails plans file challenge reply fault
+-- a verdict is given exactly where it holds
+abbrev pub ClaimVerdictsAreExact : Plans → Type 0
+ClaimVerdictsAreExact plans = (verdict : ClaimVerdict) (file challenge reply : List ℕ)
+    → (claim_verdict_of plans file challenge reply ≡ verdict)
+    ↔ ClaimVerdictHolds plans verdict file challenge reply

@@ -1,80 +1,98 @@
 -- What two replies to a claim file come to: one of them isn't accepted, the challenges are the
 -- same, two openings of one commitment, or values of which the claim holds.
-use Rattle.std.specs.Prelude.{◌≡◌, ℕ, false, All, List, map, Some, Result, Ok, Err}
+use Rattle.std.specs.Prelude.{◌≡◌, ◌↔◌, ℕ, All, List, map, Result, Ok}
 use Rattle.vk_io.specs.Files.{Files}
-use Rattle.vk_lines.specs.Lines.{Rest}
 use Rattle.vk_judge.specs.declared.answers.VErr.{VErr}
 use Rattle.vk_judge.specs.declared.named.TwoReplies.{TwoReplies}
-use Rattle.vk_judge.specs.Statement.{StatementValue}
 use Rattle.vk_judge.specs.Begun.{of_files}
-use Rattle.vk_judge.specs.Begun.{from_start}
+use Rattle.vk_judge.specs.HeldFiles.{ComesOfHeld}
+use Rattle.vk_judge.specs.Statement.{StatementValue}
 use Rattle.vk_bids.specs.declared.bids.LaneBids.{LaneBids}
-use Rattle.vk_bids.specs.declared.extraction.Extraction.{Extraction}
-use Rattle.vk_bids.specs.declared.extraction.Extraction.TheVariants.{Refused, Same, Clash, Bids}
-use Rattle.vk_bids.specs.Extractions.{OfBids}
-use Rattle.vk_bids.specs.LaneExtraction.{LaneExtraction, lane_extraction_behind}
+use Rattle.vk_bids.specs.declared.file_extraction.OpenedFile.{OpenedFile}
+use Rattle.vk_bids.specs.Extractions.{IsClashOr, OfBids}
+use Rattle.vk_bids.specs.FileExtraction.{FileExtraction, file_extraction, file_extraction_in, file_of}
+use Rattle.vk_bids.specs.FileHeadline.{IsClashOf, IsOpenedFile, TwoAccepted}
 use Rattle.vk_bids.specs.Opening.{LaneOpens}
-use Rattle.vk_claim.specs.declared.claim.Claim.{Claim}
-use Rattle.vk_claim.specs.declared.extraction.OpenedClaim.{OpenedClaim}
+use Rattle.vk_claim.specs.declared.claim.ClaimRefusal.{ClaimRefusal}
 use Rattle.vk_claim.specs.declared.head.ClaimHead.{ClaimHead}
-use Rattle.vk_claim.specs.declared.verdict.ClaimVerdict.{ClaimVerdict}
-use Rattle.vk_claim.specs.Values.{Claims, Plans, claim_for, plan_for}
-use Rattle.vk_claim.specs.Verdicts.{IsOfHead, as_claim, claim_at}
+use Rattle.vk_claim.specs.Values.{Claims, Plans, claim_for}
+use Rattle.vk_claim.specs.Claims.{IsClaim, claim_at}
+use Rattle.vk_claim.specs.Acceptance.{claim_form, claim_fronts}
+
+-- the head of a claim file, and the values that two replies to it open
+abbrev pub OpenedClaim : Type 0
+OpenedClaim = OpenedFile ClaimHead
 
 -- what two replies to a claim file come to
 abbrev pub ClaimExtraction : Type 0
-ClaimExtraction = Extraction ClaimVerdict OpenedClaim
+ClaimExtraction = FileExtraction ClaimHead ClaimRefusal
 
--- from what they come to behind the front of this head
-abbrev pub claim_extraction_with : ClaimHead → LaneExtraction → ClaimExtraction
-claim_extraction_with head (Bids opened) = Bids (record { head = head; opened = opened })
-claim_extraction_with head (Clash two) = Clash two
-claim_extraction_with head Same = Same
-claim_extraction_with head (Refused second fault) = Refused second (as_claim fault)
-
--- after what was read of the claim
-abbrev pub claim_extraction_past : Result (Claim × Rest) ClaimVerdict → Rest → Rest → Rest → Rest
-    → ClaimExtraction
-claim_extraction_past (Ok claim) challenge reply other second =
-    claim_extraction_with claim.0.head
-    (lane_extraction_behind claim.0.statement claim.1 challenge reply other second)
-claim_extraction_past (Err verdict) challenge reply other second = Refused false verdict
-
--- of a claim file, a challenge and the reply to it, and another challenge and reply
-abbrev pub claim_extraction : Plans → Rest → Rest → Rest → Rest → Rest → ClaimExtraction
-claim_extraction plans file = claim_extraction_past (claim_at plans file)
-
--- of their bytes
+-- of the bytes of a claim file, a challenge and the reply to it, and another challenge and reply
 abbrev pub claim_extraction_in : Plans → List ℕ → List ℕ → List ℕ → List ℕ → List ℕ
     → ClaimExtraction
-claim_extraction_in plans file challenge reply other second =
-    claim_extraction plans (from_start file) (from_start challenge) (from_start reply)
-    (from_start other) (from_start second)
+claim_extraction_in plans = file_extraction_in (claim_at plans)
 
 -- of the named files
 unfoldable pub claim_extraction_on : Plans → Files → List ℕ → List ℕ → List ℕ → List ℕ → List ℕ
     → Result ClaimExtraction VErr
-claim_extraction_on plans = of_files (claim_extraction plans)
+claim_extraction_on plans = of_files (file_extraction (claim_at plans))
 
 abbrev pub claim_extraction_named : Plans → Files → TwoReplies → Result ClaimExtraction VErr
 claim_extraction_named plans files names =
-    claim_extraction_on plans files names.board.now names.challenge1.now names.reply1.now
+    claim_extraction_on plans files names.file.now names.challenge1.now names.reply1.now
     names.challenge2.now names.reply2.now
 
 -- ---- values
 
--- the values of the lane open its seals, and the claim of the head's public part holds of them
+-- the claim of the head's public part holds of the values of the lane
+abbrev pub LaneHolds : Claims → ClaimHead → LaneBids → Type 0
+LaneHolds claims head lane = claim_for claims head (map (λ bid. bid.bid) lane.bids)
+
+-- they open its seals, and the claim holds of them
 pub record LaneClaims (claims : Claims) (head : ClaimHead) (s : StatementValue)
     (lane : LaneBids) : Type 0 where
   pub opens : LaneOpens s lane
-  pub holds : claim_for claims head (map (λ bid. bid.bid) lane.bids)
+  pub holds : LaneHolds claims head lane
 
 -- the lanes are those of the head, whose public part is admitted, and in each of them its claim
 -- holds
 pub record ShowsClaim (plans : Plans) (claims : Claims) (found : OpenedClaim) : Type 0 where
-  pub of_head : IsOfHead found.head found.opened.statement
-  pub admitted : plan_for plans found.head ≡ Some found.opened.statement.plan
+  pub claim : IsClaim plans (file_of found)
   pub lanes : All (LaneClaims claims found.head found.opened.statement) found.opened.lanes
 
 abbrev pub ShowsClaims : Plans → Claims → ClaimExtraction → Type 0
 ShowsClaims plans claims = OfBids (ShowsClaim plans claims)
+
+-- ---- where both are accepted and the challenges differ
+
+module _ (plans : Plans) where
+  -- two replies are accepted with one claim file, each with its challenge, and the challenges
+  -- differ
+  abbrev pub TwoClaimsAccepted : (file challenge reply other second : List ℕ) → Type 0
+  TwoClaimsAccepted = TwoAccepted (claim_fronts plans)
+
+  -- the values are of just the lanes whose two bits differ; those of each lane are opened by what
+  -- the replies show of it, and open its seals; and the file's claim holds of them
+  pub record IsClaimOpened (claims : Claims) {file challenge reply other second : List ℕ}
+      (two : TwoClaimsAccepted file challenge reply other second) (found : OpenedClaim) : Type 0
+    where
+      pub is : IsOpenedFile (claim_form plans) two found
+      pub holds : All (LaneHolds claims two.first.front.front.head) found.opened.lanes
+
+  -- what the replies come to is such values, or two openings of one commitment
+  abbrev pub IsOfClaim : Claims → {file challenge reply other second : List ℕ}
+      → TwoClaimsAccepted file challenge reply other second → ClaimExtraction → Type 0
+  IsOfClaim claims two = IsClashOr (IsClashOf two) (IsClaimOpened claims two)
+
+  -- two replies that are accepted for different challenges give values or a clash
+  abbrev pub AcceptedClaimsOpen : Claims → Type 0
+  AcceptedClaimsOpen claims = (file challenge reply other second : List ℕ)
+      (two : TwoClaimsAccepted file challenge reply other second)
+      → IsOfClaim claims two (claim_extraction_in plans file challenge reply other second)
+
+  -- what named files come to is what their bytes do, where all are held and none is too long
+  abbrev pub ClaimFilesAreExtracted : Type 0
+  ClaimFilesAreExtracted =
+      (files : Files) (file challenge reply other second : List ℕ) (found : ClaimExtraction)
+      → (claim_extraction_on plans files file challenge reply other second ≡ Ok found)
+      ↔ ComesOfHeld (file_extraction (claim_at plans)) files file challenge reply other second found

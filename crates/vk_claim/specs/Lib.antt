@@ -2,10 +2,9 @@ pub mod Values
 pub mod Texts
 pub mod Reading
 pub mod Tables
+pub mod Claims
 pub mod Verdicts
 pub mod Acceptance
 pub mod Two
 pub mod Extraction
-pub mod Headline
 pub mod Printing
-pub mod TwoLaw

@@ -5,7 +5,7 @@ use Rattle.vk_lines.specs.Forms.{line, spaced}
 use Rattle.vk_bids.specs.declared.bids.LaneBids.{LaneBids}
 use Rattle.vk_bids.specs.declared.bids.OpenedBid.{OpenedBid}
 use Rattle.vk_bids.specs.Texts.{agreements_text, opened_line}
-use Rattle.vk_claim.specs.declared.extraction.OpenedClaim.{OpenedClaim}
+use Rattle.vk_claim.specs.Extraction.{OpenedClaim}
 use Rattle.vk_claim.specs.declared.head.Kind.{Kind}
 use Rattle.vk_claim.specs.Texts.{kind_word}
 

@@ -4,35 +4,37 @@ ghost use Rattle.vk_lines.specs.Lines.{OnlyReads, rest_of};
 ghost use Rattle.vk_judge.specs.Behind.{and_rest};
 ghost use Rattle.vk_judge.specs.Wanting.{MemoryWasWanting};
 ghost use Rattle.vk_claim.specs.Values.{IsClaimFront, plan_for};
-ghost use Rattle.vk_claim.specs.Verdicts.{IsClaim, claim_at, claim_with};
+ghost use Rattle.vk_claim.specs.Claims.{IsClaim, claim_at, claim_with};
 
 use crate::circuits::Circuits;
 use crate::front::{ClaimFront, read_claim_front};
 use crate::head::ClaimHead;
-use crate::verdict::ClaimVerdict;
 use std::alloc::Global;
 use vk_io::{OutsideErr, Shelf};
-use vk_judge::{Part, Statement, in_part, known};
+use vk_judge::{Opened, Part, Refusal, Statement, in_part, known};
 use vk_lines::Lines;
 use vk_residue::NoMemory;
 
-/// A claim: the head of its file, and what the lanes are to show, whose circuit is that of the
-/// public part.
-#[derive(Debug, Drop)]
-pub struct Claim {
-    pub head: ClaimHead,
-    pub statement: Statement,
+/// Why a claim file is refused by what its front says.
+#[derive(Clone, Copy, Debug, PartialEq, Eq)]
+pub enum ClaimRefusal {
+    /// The public part is not admitted.
+    Public,
 }
 
-/// Reads a claim file before its first lane. The verdict on it is known where a line isn't what its
-/// place demands, and then where the public part isn't admitted.
-#[tactic(auto, unfolding(crate::specs::Verdicts::claim_at), using(vk_judge::specs::Wanting::memory_was_wanting))]
+/// A claim: the head of its file, and what the lanes are to show, whose circuit is that of the
+/// public part.
+pub type Claim = Opened<ClaimHead>;
+
+/// Reads a claim file before its first lane. It is refused where a line isn't what its place
+/// demands, and then where the public part isn't admitted.
+#[tactic(auto, unfolding(crate::specs::Claims::claim_at), using(vk_judge::specs::Wanting::memory_was_wanting))]
 pub fn read_claim<S: Shelf, Q: Circuits>(
     alloc: Global,
     shelf: &mut S,
     circuits: &Q,
     lines: &mut Lines,
-) -> Result<Result<Claim, ClaimVerdict>, OutsideErr>
+) -> Result<Result<Claim, Refusal<ClaimRefusal>>, OutsideErr>
     ensures modelled { IfSome (S.held shelf.old) (λ files. IfOk result (λ claim.
         claim_at (Q.admitted circuits.now) (rest_of lines.old files)
         ≡ and_rest claim (rest_of lines.new files))) }
@@ -42,7 +44,7 @@ pub fn read_claim<S: Shelf, Q: Circuits>(
 {
     let read = in_part(Part::Board, read_claim_front(alloc, shelf, lines));
     match known(read)? {
-        Err(fault) => Ok(Err(ClaimVerdict::from(fault))),
+        Err(fault) => Ok(Err(Refusal::Fault(fault))),
         Ok(front) => {
             let claim = claim_with(alloc, circuits, front)?;
             Ok(claim)
@@ -55,7 +57,7 @@ fn claim_with<Q: Circuits>(
     alloc: Global,
     circuits: &Q,
     front: ClaimFront,
-) -> Result<Result<Claim, ClaimVerdict>, NoMemory>
+) -> Result<Result<Claim, Refusal<ClaimRefusal>>, NoMemory>
     requires { IsClaimFront front }
     ensures value { IfOk result
         (λ claim. claim ≡ claim_with front (plan_for (Q.admitted circuits.now) front.head)) }
@@ -63,10 +65,10 @@ fn claim_with<Q: Circuits>(
 {
     let ClaimFront { head, seals } = front;
     match circuits.plan(alloc, &head)? {
-        None => Ok(Err(ClaimVerdict::Public)),
+        None => Ok(Err(Refusal::Front(ClaimRefusal::Public))),
         Some(plan) => {
             let statement = Statement::of(alloc, head.auction, head.lanes, seals, plan)?;
-            Ok(Ok(Claim { head, statement }))
+            Ok(Ok(Opened { head, statement }))
         }
     }
 }

@@ -9,9 +9,12 @@ ghost use Rattle.vk_claim.specs.Values.{IsClaimFile, IsClaimFront, IsClaimHead};
 ghost use Rattle.vk_claim.specs.Texts.{claim_front_text, claim_head_text, claim_text};
 ghost use Rattle.vk_claim.specs.Reading.{claim_file_at, claim_front_at, claim_head_at};
 ghost use Rattle.vk_claim.specs.Tables.{claim_table};
-ghost use Rattle.vk_claim.specs.Acceptance.{ClaimVerdictsAreExact};
-ghost use Rattle.vk_claim.specs.Headline.{AcceptedAreOfOneClaim, AcceptedClaimsOpen, ClaimFilesAreExtracted, OnlyAcceptedClaimsOpen};
-ghost use Rattle.vk_claim.specs.TwoLaw.{AcceptedClaimsGive, ClaimFilesGive, ClaimsAreExtractedByFinding, ClaimsFindByVerdicts};
+ghost use Rattle.vk_claim.specs.Acceptance.{ClaimVerdictsAreExact, claim_form};
+ghost use Rattle.vk_claim.specs.Claims.{claim_at};
+ghost use Rattle.vk_claim.specs.Two.{ClaimFilesGive};
+ghost use Rattle.vk_claim.specs.Extraction.{AcceptedClaimsOpen, ClaimFilesAreExtracted};
+ghost use Rattle.vk_judge.specs.FileForms.{AcceptedGive, FindsByBoth};
+ghost use Rattle.vk_bids.specs.FileHeadline.{ExtractsByFinding, OnlyAcceptedOpenFile};
 
 use crate::circuits::Circuits;
 
@@ -38,8 +41,7 @@ pub fn all_but_claim_files_have_a_fault_line()
 /// accepted; that the public part is not admitted; and each fault, where all that is read before it
 /// is right and accepted.
 pub fn claim_verdicts_are_given_exactly_where_they_hold<Q: Circuits>()
-    ensures { (circuits : Q) (file challenge reply : List ℕ)
-        → ClaimVerdictsAreExact (Q.admitted circuits) file challenge reply }
+    ensures { (circuits : Q) → ClaimVerdictsAreExact (Q.admitted circuits) }
 {}
 
 /// A law, of any circuits and any five files: where both replies are accepted with one claim file
@@ -50,19 +52,18 @@ pub fn claim_verdicts_are_given_exactly_where_they_hold<Q: Circuits>()
 ///
 /// Only such files come to values or a clash. What named files come to is that of their bytes.
 pub fn accepted_claims_open_values_or_clash<Q: Circuits>()
-    ensures one { (circuits : Q) → AcceptedAreOfOneClaim (Q.admitted circuits) }
     ensures given { (circuits : Q) → AcceptedClaimsOpen (Q.admitted circuits) (Q.claim circuits) }
-    ensures only { (circuits : Q) → OnlyAcceptedClaimsOpen (Q.admitted circuits) }
+    ensures only { (circuits : Q) → OnlyAcceptedOpenFile (claim_form (Q.admitted circuits)) }
     ensures files { (circuits : Q) → ClaimFilesAreExtracted (Q.admitted circuits) }
 {}
 
 /// A law, of any circuits: what a checker of two replies to a claim file gives and finds. What is
-/// found is what the verdicts on both come to, and so is what is extracted of them. Two accepted
-/// replies give the lanes 1, 2, .. of the claim file whose text the file is, each with what the
-/// replies show of it. What named files give is what their bytes do.
+/// found is what judging both comes to, and so is what is extracted of them. Two accepted replies
+/// are to one front, and give the lanes 1, 2, .. of the claim file whose text the file is, each with
+/// what the replies show of it. What named files give is what their bytes do.
 pub fn claims_are_checked_by_both_verdicts<Q: Circuits>()
-    ensures found { (circuits : Q) → ClaimsFindByVerdicts (Q.admitted circuits) }
-    ensures extracted { (circuits : Q) → ClaimsAreExtractedByFinding (Q.admitted circuits) }
-    ensures given { (circuits : Q) → AcceptedClaimsGive (Q.admitted circuits) }
+    ensures found { (circuits : Q) → FindsByBoth (claim_at (Q.admitted circuits)) }
+    ensures extracted { (circuits : Q) → ExtractsByFinding (claim_form (Q.admitted circuits)) }
+    ensures given { (circuits : Q) → AcceptedGive (claim_form (Q.admitted circuits)) }
     ensures files { (circuits : Q) → ClaimFilesGive (Q.admitted circuits) }
 {}

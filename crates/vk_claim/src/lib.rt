@@ -13,7 +13,7 @@ mod two;
 mod verdict;
 
 pub use circuits::Circuits;
-pub use claim::{Claim, read_claim};
+pub use claim::{Claim, ClaimRefusal, read_claim};
 pub use extraction::{ClaimExtraction, OpenedClaim, extract_claim};
 pub use front::{ClaimFront, read_claim_front};
 pub use head::{ClaimHead, Kind, claim_head_text, read_claim_head};
@@ -23,5 +23,5 @@ pub use laws::{
     claims_are_checked_by_both_verdicts,
 };
 pub use printing::claim_extraction_lines;
-pub use two::{ClaimChecker, ClaimCourse, ClaimFinding};
-pub use verdict::{ClaimVerdict, claim_verdict};
+pub use two::{ClaimChecker, ClaimFinding};
+pub use verdict::{ClaimVerdict, claim_verdict, judge_claim};

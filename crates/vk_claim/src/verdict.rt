@@ -1,16 +1,15 @@
 // The verdict on a claim file, a challenge and a reply, as whole files.
-ghost use Rattle.std.specs.Prelude.{◌≡◌, IfOk, IfSome};
+ghost use Rattle.std.specs.Prelude.{◌≡◌, IfSome};
 ghost use Rattle.vk_lines.specs.Gives.{Gives};
 ghost use Rattle.vk_lines.specs.Lines.{OnlyReads};
-ghost use Rattle.vk_judge.specs.Behind.{behind_judged};
-ghost use Rattle.vk_judge.specs.Begun.{of_begun, unread_file};
-ghost use Rattle.vk_claim.specs.Verdicts.{as_claim, claim_judged, claim_verdict_on, verdict_behind};
+ghost use Rattle.vk_judge.specs.Begun.{unread_file};
+ghost use Rattle.vk_claim.specs.Verdicts.{claim_judged_named, claim_verdict_on, refused_verdict, verdict_by};
 
 use crate::circuits::Circuits;
-use crate::claim::read_claim;
+use crate::claim::{ClaimRefusal, read_claim};
 use std::alloc::Global;
-use vk_io::{OutsideErr, Shelf};
-use vk_judge::{Attempt, Fault, OneReply, Part, Statement, VErr, judge_behind, known};
+use vk_io::Shelf;
+use vk_judge::{Fault, OneReply, Part, Refusal, VErr, judge_file};
 use vk_wire::WireFault;
 
 /// The first fault of a claim file, a challenge and a reply, or that there is none.
@@ -41,15 +40,20 @@ pub enum ClaimVerdict {
     Lanes,
 }
 
-impl From<Fault> for ClaimVerdict {
-    ghost from_gives = { λ fault verdict. verdict ≡ as_claim fault };
+impl From<Refusal<ClaimRefusal>> for ClaimVerdict {
+    ghost from_gives = { λ refusal verdict. verdict ≡ refused_verdict refusal };
 
-    fn from(fault: Fault) -> ClaimVerdict {
-        match fault {
-            Fault::Malformed { part, line } => ClaimVerdict::Malformed { part, line },
-            Fault::Row { lane, row } => ClaimVerdict::Row { lane, row },
-            Fault::Wire { lane, wire, fault } => ClaimVerdict::Wire { lane, wire, fault },
-            Fault::Lanes => ClaimVerdict::Lanes,
+    fn from(refusal: Refusal<ClaimRefusal>) -> ClaimVerdict {
+        match refusal {
+            Refusal::Front(ClaimRefusal::Public) => ClaimVerdict::Public,
+            Refusal::Fault(Fault::Malformed { part, line }) => {
+                ClaimVerdict::Malformed { part, line }
+            }
+            Refusal::Fault(Fault::Lanes) => ClaimVerdict::Lanes,
+            Refusal::Fault(Fault::Wire { lane, wire, fault }) => {
+                ClaimVerdict::Wire { lane, wire, fault }
+            }
+            Refusal::Fault(Fault::Row { lane, row }) => ClaimVerdict::Row { lane, row },
         }
     }
 }
@@ -61,7 +65,7 @@ impl From<Fault> for ClaimVerdict {
 ///
 /// Errs where a file is missing or longer than 2^30 bytes, and names the first that is; where the
 /// shelf fails; and for want of memory.
-#[tactic(auto, using(crate::proofs::Named::verdict_begun))]
+#[tactic(auto, using(crate::proofs::Named::verdict_judged))]
 pub fn claim_verdict<S: Shelf, Q: Circuits>(
     alloc: Global,
     shelf: &mut S,
@@ -75,61 +79,40 @@ pub fn claim_verdict<S: Shelf, Q: Circuits>(
         Gives unread_file (λ verdict. verdict) result
         (claim_verdict_on (Q.admitted circuits.now) files board.now challenge.now reply.now)) }
 {
-    let file = board;
     let names = OneReply {
-        file,
+        file: board,
         challenge,
         reply,
     };
-    let mut attempt = names.begin(alloc, shelf)?;
-    let verdict = judge_claim(alloc, shelf, circuits, &mut attempt)?;
-    Ok(verdict)
+    let judged = judge_claim(alloc, shelf, circuits, &names)?;
+    Ok(verdict_by(judged))
 }
 
-/// Judges the files, from their first lines to their ends.
-#[tactic(auto, unfolding(crate::specs::Verdicts::claim_judged))]
-fn judge_claim<S: Shelf, Q: Circuits>(
+/// Judges the named files, for these circuits, as `claim_verdict` tells.
+#[tactic(auto, using(crate::proofs::Named::judged_begun))]
+pub fn judge_claim<S: Shelf, Q: Circuits>(
     alloc: Global,
     shelf: &mut S,
     circuits: &Q,
-    attempt: &mut Attempt,
-) -> Result<ClaimVerdict, OutsideErr>
+    names: &OneReply<'_>,
+) -> Result<Result<(), Refusal<ClaimRefusal>>, VErr>
+    ensures shelf { OnlyReads S.held S.Shelf.faults VErr.Failed result shelf.old shelf.new }
     ensures modelled { IfSome (S.held shelf.old) (λ files.
-        IfOk result (λ verdict. of_begun (claim_judged (Q.admitted circuits.now)) attempt.old files
-        ≡ verdict)) }
-    ensures shelf { OnlyReads S.held S.Shelf.faults OutsideErr.Failed result shelf.old shelf.new }
+        Gives unread_file (λ judged. judged) result
+        (claim_judged_named (Q.admitted circuits.now) files names.now)) }
 {
-    match read_claim(alloc, shelf, circuits, &mut attempt.pair.board)? {
-        Err(verdict) => Ok(verdict),
-        Ok(claim) => {
-            let verdict = judge_lanes(alloc, shelf, &claim.statement, attempt)?;
-            Ok(verdict)
-        }
-    }
+    let mut attempt = names.begin(alloc, shelf)?;
+    let opened = read_claim(alloc, shelf, circuits, &mut attempt.pair.file)?;
+    let judged = judge_file(alloc, shelf, opened, &mut attempt)?;
+    Ok(judged)
 }
 
-/// Judges the files behind the front of which this is the statement.
-#[tactic(auto, using(vk_judge::proofs::Joined::behind_parts))]
-fn judge_lanes<S: Shelf>(
-    alloc: Global,
-    shelf: &mut S,
-    statement: &Statement,
-    attempt: &mut Attempt,
-) -> Result<ClaimVerdict, OutsideErr>
-    ensures modelled { IfSome (S.held shelf.old) (λ files. IfOk result (λ verdict.
-        verdict_behind (of_begun (behind_judged statement.now) attempt.old files) ≡ verdict)) }
-    ensures shelf { OnlyReads S.held S.Shelf.faults OutsideErr.Failed result shelf.old shelf.new }
-{
-    let judged = known(judge_behind(alloc, shelf, statement, attempt))?;
-    Ok(verdict_in(judged))
-}
-
-/// The verdict by what was judged behind the front.
-fn verdict_in(judged: Result<(), Fault>) -> ClaimVerdict
-    ensures { result ≡ verdict_behind judged }
+/// The verdict by what judging came to.
+fn verdict_by(judged: Result<(), Refusal<ClaimRefusal>>) -> ClaimVerdict
+    ensures { result ≡ verdict_by judged }
 {
     match judged {
         Ok(()) => ClaimVerdict::Accepted,
-        Err(fault) => ClaimVerdict::from(fault),
+        Err(refusal) => ClaimVerdict::from(refusal),
     }
 }

@@ -1,17 +1,16 @@
 -- What `claim-extract` says holds of the files: of two replies that are accepted for different
 -- challenges, values or a clash, and of no others.
-use Rattle.std.proofs.Common.{◌≡◌, ◌≢◌, ℕ, Bool, true, false, List, Option, Some, Result, Ok, Err, refl, sym, ap, subst, ◌∙◌}
+use Rattle.std.proofs.Common.{◌≡◌, ℕ, Bool, List, Option, Some, Result, Ok, Err, refl, sym, ap, subst, ◌∙◌}
 use Rattle.vk_io.specs.Files.{Files}
 use Rattle.vk_judge.specs.declared.answers.Part.{Part}
 use Rattle.vk_judge.specs.declared.answers.VErr.{VErr}
-use Rattle.vk_bids.specs.declared.extraction.Extraction.TheVariants.{Refused, Same}
-use Rattle.vk_bids.specs.Headline.{IsClashBehind}
-use Rattle.vk_claim.specs.declared.verdict.ClaimVerdict.{ClaimVerdict}
-use Rattle.vk_claim.specs.declared.verdict.ClaimVerdict.TheVariants.{Accepted}
-use Rattle.vk_claim.specs.Extraction.{ClaimExtraction, claim_extraction, claim_extraction_in, claim_extraction_on}
-use Rattle.vk_claim.specs.Headline.{IsClaimOpened}
+use Rattle.vk_bids.specs.declared.extraction.Extraction.TheVariants.{Same}
+use Rattle.vk_bids.specs.FileExtraction.{file_extraction}
+use Rattle.vk_bids.specs.FileHeadline.{IsClashOf}
+use Rattle.vk_claim.specs.Claims.{claim_at}
+use Rattle.vk_claim.specs.Extraction.{ClaimExtraction, IsClaimOpened, claim_extraction_in, claim_extraction_on}
 use Rattle.vk_claim.specs.Printing.{claim_extraction_text}
-use Rattle.vk_claim.proofs.Headlines.{claim_files_are_extracted, claims_open}
+use Rattle.vk_claim.proofs.Opening.{claim_files_are_extracted, claims_open}
 use Rattle.vk_words.specs.Names.{ExtractWords}
 use Rattle.vk_effect.specs.Effects.{SaidValue, puts}
 use Rattle.vk_audit.specs.Answers.{SettlesExtract}
@@ -20,13 +19,12 @@ use Rattle.vk_audit.specs.Verdicts.{answer_said, name_of, unread_said}
 use Rattle.vk_audit.proofs.Answered.{IsAlone, answered_tells, extract_holds, extract_parts, files_unread}
 use Rattle.vk_audit.proofs.Extracting.{found_said, told_apart}
 use Rattle.vk_audit.proofs.Inputs.{fault_of, first_unread}
-use Rattle.vk_audit.proofs.Telling.{only_found, only_same, second_refused}
+use Rattle.vk_audit.proofs.Telling.{only_found, only_same}
 use Rattle.vk_claims.specs.Circuits.{admitted_plan, claimed, claims_are_sound, plans_are_right}
 use Rattle.vk_claims.specs.Extractions.{claim_extraction_said, claim_extract_said}
-use Rattle.vk_claims.specs.Findings.{ClaimExtractionHolds}
 use Rattle.vk_claims.specs.Statuses.{AcceptsTwoClaims, ClaimExtractHolds, ExtractsClaimsExactly, HasClaimExtraction, IsClaimExtracted, TellsClaimExtractions, TellsSameClaimsExactly}
-use Rattle.vk_claims.proofs.Findings.{extraction_holds, second_accepted, unfound_found}
-use Rattle.vk_claims.proofs.Verifying.{status_accepted, status_within}
+use Rattle.vk_claims.proofs.Findings.{extraction_holds, unfound_found}
+use Rattle.vk_claims.proofs.Verifying.{status_refused, status_within}
 
 -- ---- the answer
 
@@ -37,14 +35,14 @@ module _ (files : Files) (names : ExtractWords) where
 
   abbrev of_held : HoldsFiles files names → ClaimExtraction
   of_held held =
-      claim_extraction_in admitted_plan held.board_bytes held.first.challenge_bytes
+      claim_extraction_in admitted_plan held.file_bytes held.first.challenge_bytes
       held.first.reply_bytes held.second.challenge_bytes held.second.reply_bytes
 
   answer_unread : (unread : Part × Bool)
       → first_unread files (name_of names) extract_parts ≡ Some unread
       → answer ≡ Err (fault_of unread)
   unfolding claim_extraction_on
-  answer_unread unread is = files_unread (claim_extraction admitted_plan) files names unread is
+  answer_unread unread is = files_unread (file_extraction (claim_at admitted_plan)) files names unread is
 
   answer_read : (held : HoldsFiles files names) → answer ≡ Ok (of_held held)
   answer_read held =
@@ -57,7 +55,7 @@ module _ (files : Files) (names : ExtractWords) where
       of_held answer_read (λ held. record {
         held = held;
         holds = extraction_holds admitted_plan claimed plans_are_right claims_are_sound
-            held.board_bytes held.first.challenge_bytes held.first.reply_bytes
+            held.file_bytes held.first.challenge_bytes held.first.reply_bytes
             held.second.challenge_bytes held.second.reply_bytes;
       })
 
@@ -66,7 +64,7 @@ module _ (files : Files) (names : ExtractWords) where
       let held = has.held in
       answer_read held ∙ ap (λ e. Ok e)
       (unfound_found admitted_plan claimed plans_are_right claims_are_sound
-      held.board_bytes held.first.challenge_bytes held.first.reply_bytes held.second.challenge_bytes
+      held.file_bytes held.first.challenge_bytes held.first.reply_bytes held.second.challenge_bytes
       held.second.reply_bytes extraction settles has.holds)
 
 abbrev said_of : ExtractWords → Result ClaimExtraction VErr → SaidValue
@@ -89,22 +87,13 @@ said_of_accepted files names taken accepted =
     in IsClaimExtracted accepted.two said.status taken
     (puts said.text taken) in
     subst P (sym (answer_read files names accepted.held))
-    (found_said (IsClashBehind accepted.two.behind)
+    (found_said (IsClashOf accepted.two)
     (IsClaimOpened admitted_plan claimed accepted.two) claim_extraction_text
     (claim_extraction_said names) (λ clash. refl) (λ found. refl) taken
     (of_held files names accepted.held)
-    (claims_open admitted_plan claimed plans_are_right claims_are_sound accepted.two))
+    (claims_open admitted_plan claimed claims_are_sound plans_are_right _ _ _ _ _ accepted.two))
 
 -- ---- only such files
-
--- no reply is refused by the verdict that it is accepted
-refused_never : (of_second : Bool) (refused : ClaimVerdict)
-    (file challenge reply other second : List ℕ)
-    → ClaimExtractionHolds admitted_plan claimed (Refused of_second refused) file challenge reply
-    other second → refused ≢ Accepted
-refused_never false refused file challenge reply other second holds = holds.0
-refused_never true refused file challenge reply other second holds =
-    second_refused second_accepted holds.1
 
 pub extracts_claims_exactly : ExtractsClaimsExactly
 extracts_claims_exactly files names taken = (
@@ -113,13 +102,9 @@ extracts_claims_exactly files names taken = (
       only_found files names (extract_inputs names) (HasClaimExtraction files names)
       (claim_extraction_said names) refl (λ _. refl) (λ _. refl) (status_within names)
       (AcceptsTwoClaims files names)
-      (λ of_second refused holds other small.
-      let held = holds.held in
-      refused_never of_second refused held.board_bytes held.first.challenge_bytes
-      held.first.reply_bytes held.second.challenge_bytes held.second.reply_bytes holds.holds
-      (status_accepted names of_second refused other small))
-      (λ clash holds. record { held = holds.held; two = holds.holds.0 })
-      (λ values holds. record { held = holds.held; two = holds.holds.0 })
+      (λ of_second refused holds. status_refused names of_second refused)
+      (λ clash holds. record { held = holds.held; two = holds.holds.holds.0 })
+      (λ values holds. record { held = holds.held; two = holds.holds.holds.0 })
       (answer files names) (answer_holds files names) apart.0 apart.1,
 )
 

@@ -12,21 +12,23 @@ use Rattle.vk_reply.specs.Texts.{challenge_text}
 use Rattle.vk_reply.specs.Values.{IsChallenge}
 use Rattle.vk_judge.specs.Statement.{StatementValue}
 use Rattle.vk_judge.specs.Acceptance.{file_text}
+use Rattle.vk_judge.specs.FileForms.{two_lane_in}
+use Rattle.vk_judge.specs.HeldFiles.{HeldAttempt, HeldFiles}
 use Rattle.vk_bids.specs.declared.bids.LaneBids.{LaneBids}
 use Rattle.vk_bids.specs.declared.extraction.Extraction.TheVariants.{Bids, Clash, Refused, Same}
 use Rattle.vk_bids.specs.declared.lane_extraction.OpenedLanes.{OpenedLanes}
-use Rattle.vk_bids.specs.Headline.{AgreesAt, HeldAttempt, HeldFiles, IsOpened, TwoAcceptedBehind, differing, lane_of}
+use Rattle.vk_bids.specs.FileHeadline.{IsOpenedBy, LaneAgrees, differing_in}
+use Rattle.vk_bids.specs.OpenedBehind.{differing}
 use Rattle.vk_bids.specs.Texts.{has_one_bid}
 use Rattle.vk_bids.proofs.Agreeing.{no_first_clash}
-use Rattle.vk_claim.specs.declared.extraction.OpenedClaim.{OpenedClaim}
 use Rattle.vk_claim.specs.declared.head.ClaimHead.{ClaimHead}
 use Rattle.vk_claim.specs.declared.front.ClaimFront.{ClaimFront}
-use Rattle.vk_claim.specs.Acceptance.{AdmittedFront, ClaimAccepts}
-use Rattle.vk_claim.specs.Extraction.{ClaimExtraction, claim_extraction_in}
-use Rattle.vk_claim.specs.Headline.{IsOfClaim, TwoClaimsAccepted}
+use Rattle.vk_claim.specs.Acceptance.{ClaimAccepts}
+use Rattle.vk_claim.specs.Claims.{IsAdmitted, PlannedFront, planned}
+use Rattle.vk_claim.specs.Extraction.{ClaimExtraction, IsOfClaim, OpenedClaim, TwoClaimsAccepted, claim_extraction_in}
 use Rattle.vk_claim.specs.Texts.{claim_front_text, claim_head_text}
 use Rattle.vk_claim.specs.Values.{IsClaimFront, IsClaimHead}
-use Rattle.vk_claim.proofs.Headlines.{claim_files_are_extracted, claims_open}
+use Rattle.vk_claim.proofs.Opening.{claim_files_are_extracted, claims_open}
 use Rattle.vk_keeper.specs.declared.auction.SealRow.{SealRow}
 use Rattle.vk_job.specs.Proofs.{ProofValue, file_of, first_dry_in, lanes_in, reply_in, seal_lines_of, source_of}
 use Rattle.vk_honest.specs.Answers.{IsSealedProof, statement_in}
@@ -50,33 +52,6 @@ use Rattle.vk_claims.proofs.Sizes.{file_is_short, reply_is_short}
 use Rattle.vk_claims.specs.Claims.{MayPublish, head_with, kind_in, proof_by, proof_with, sizes_of}
 use Rattle.vk_claims.specs.Laws.{ClaimSampleIsAccepted, HasSize, ClaimSampleOpensAll}
 use Rattle.vk_claims.specs.Texts.{claim_names, files_of}
-
--- ---- what both replies of an honest proof show
-
-module _ (width : ℕ) (proof : ProofValue) (is : IsSealedProof width proof) (front : List ℕ) (first second : Challenge)
-    (right_first : IsChallenge first) (count_first : length first.bits ≡ proof.lanes)
-    (right_second : IsChallenge second) (count_second : length second.bits ≡ proof.lanes) (differ : first.bits ≢ second.bits) where
-  abbrev pub two : TwoAcceptedBehind (statement_in proof) front (file_text front (lanes_in proof))
-      (challenge_text first) (reply_in proof first.bits) (challenge_text second)
-      (reply_in proof second.bits)
-  two = record {
-    first = accepts_proof width proof is first right_first count_first front;
-    second = accepts_proof width proof is second right_second count_second front;
-    differ = differ;
-  }
-
-  pub all_agree : All (AgreesAt (lane_of two)) (differing 1 first.bits second.bits)
-  all_agree k d lt wire inside = replies.all_agree width proof is first second right_first
-      count_first right_second count_second k d lt wire
-
-  pub lanes_are : (found : OpenedLanes) → IsOpened two found
-      → found.lanes ≡ map (rows_in_lane proof.rows) (differing 1 first.bits second.bits)
-  lanes_are found right =
-      replies.lanes_are width proof is first second right_first count_first right_second
-      count_second found.lanes right.numbers right.shown (λ k d lt. record {
-        one_each = (right.opens k d lt).one_each;
-        sums = λ index bid here. ((right.opens k d lt).opened index bid here).is_sum;
-      })
 
 -- ---- the claim of a case
 
@@ -107,11 +82,12 @@ module _ (kind : ClaimKind) (case : SampleCase) (is : IsCaseOf (sizes_of kind) c
         (seals_may_stand case is.right rows all);
   }
 
-  abbrev admitted : AdmittedFront admitted_plan
+  abbrev shown_front : PlannedFront
+  shown_front = planned front (plan_of (kind_in kind) (length case.seats) numbers)
+
+  admitted : IsAdmitted admitted_plan shown_front
   admitted = record {
-    front = front;
-    right = front_is;
-    plan = plan_of (kind_in kind) (length case.seats) numbers;
+    front = front_is;
     admitted = part (kind_in kind) (length case.seats) numbers shown.case_is;
   }
 
@@ -119,28 +95,33 @@ module _ (kind : ClaimKind) (case : SampleCase) (is : IsCaseOf (sizes_of kind) c
   abbrev file : List ℕ
   file = file_of (claim_head_text (head_with kind case numbers)) proof
 
-  file_is : file ≡ file_text (claim_front_text front) (lanes_in proof)
+  abbrev whole : List ℕ
+  whole = file_text (claim_front_text front) (lanes_in proof)
+
+  file_is : file ≡ whole
   file_is =
       sym (append_assoc (claim_head_text (head_with kind case numbers))
       (flat_map seal_lines_text (map seal_lines_of rows))
       (lanes_text 1 (lanes_in proof) ++ line (codes "end")))
 
-  accepted : (challenge : Challenge) → IsChallenge challenge → length challenge.bits ≡ case.lanes
-      → ClaimAccepts admitted_plan file (challenge_text challenge) (reply_in proof challenge.bits)
-  accepted challenge right count =
-      let P : List ℕ → Type 0 =
-      λ f. ClaimAccepts admitted_plan f (challenge_text challenge)
-      (reply_in proof challenge.bits) in
-      subst P (sym file_is) (record {
-        shown = admitted;
-        behind = accepts_proof case.width proof sealed challenge right count
-            (claim_front_text front);
-      })
+  abbrev accepted : (challenge : Challenge) → IsChallenge challenge
+      → length challenge.bits ≡ case.lanes
+      → ClaimAccepts admitted_plan whole (challenge_text challenge) (reply_in proof challenge.bits)
+  accepted challenge right count = record {
+    front = shown_front;
+    right = admitted;
+    behind = accepts_proof case.width proof sealed challenge right count (claim_front_text front);
+  }
+
+  of_file : (challenge reply : List ℕ) → ClaimAccepts admitted_plan whole challenge reply
+      → ClaimAccepts admitted_plan file challenge reply
+  of_file challenge reply accepts =
+      subst (λ f. ClaimAccepts admitted_plan f challenge reply) (sym file_is) accepts
 
   pub are_accepted : ClaimSampleIsAccepted kind case numbers proof
   are_accepted = record {
-    first = accepted case.first is.right.first is.right.first_count;
-    second = accepted case.second is.right.second is.right.second_count;
+    first = of_file _ _ (accepted case.first is.right.first is.right.first_count);
+    second = of_file _ _ (accepted case.second is.right.second is.right.second_count);
   }
 
   -- ---- what is opened
@@ -148,18 +129,14 @@ module _ (kind : ClaimKind) (case : SampleCase) (is : IsCaseOf (sizes_of kind) c
   differ : case.first.bits ≢ case.second.bits
   differ = λ same. turned_differ case.first.bits is.right.first.some_bit (same ∙ is.right.turned)
 
-  abbrev behind : TwoAcceptedBehind (statement_in proof) (claim_front_text front)
-      (file_text (claim_front_text front) (lanes_in proof)) (challenge_text case.first)
+  abbrev two : TwoClaimsAccepted admitted_plan whole (challenge_text case.first)
       (reply_in proof case.first.bits) (challenge_text case.second)
       (reply_in proof case.second.bits)
-  behind = two case.width proof sealed (claim_front_text front) case.first case.second
-      is.right.first is.right.first_count is.right.second is.right.second_count differ
-
-  abbrev claims_two : TwoClaimsAccepted admitted_plan
-      (file_text (claim_front_text front) (lanes_in proof)) (challenge_text case.first)
-      (reply_in proof case.first.bits) (challenge_text case.second)
-      (reply_in proof case.second.bits)
-  claims_two = record { shown = admitted; behind = behind }
+  two = record {
+    first = accepted case.first is.right.first is.right.first_count;
+    second = accepted case.second is.right.second is.right.second_count;
+    differ = differ;
+  }
 
   abbrev given : List LaneBids
   given = map (rows_in_lane rows) (differing 1 case.first.bits case.second.bits)
@@ -180,20 +157,30 @@ module _ (kind : ClaimKind) (case : SampleCase) (is : IsCaseOf (sizes_of kind) c
       ∙ (ap (λ s. of (head_with kind case numbers) s found.opened.lanes) statements
       ∙ ap (of (head_with kind case numbers) (statement_in proof)) lanes)
 
-  gives : (extraction : ClaimExtraction) → IsOfClaim admitted_plan claimed claims_two extraction
+  all_agree : All (LaneAgrees two) (differing_in two)
+  all_agree k d lt wire inside =
+      replies.all_agree case.width proof sealed case.first case.second is.right.first
+      is.right.first_count is.right.second is.right.second_count k d lt wire
+
+  lanes_are : (found : OpenedLanes) → IsOpenedBy two found → found.lanes ≡ given
+  lanes_are found opened =
+      replies.lanes_are case.width proof sealed case.first case.second is.right.first
+      is.right.first_count is.right.second is.right.second_count found.lanes opened.numbers
+      opened.shown (λ k d lt. record {
+        one_each = (opened.opens k d lt).one_each;
+        sums = λ index bid here. ((opened.opens k d lt).opened index bid here).is_sum;
+      })
+
+  gives : (extraction : ClaimExtraction) → IsOfClaim admitted_plan claimed two extraction
       → extraction ≡ Bids all_found
   gives (Refused second verdict) is_of = absurd is_of
   gives Same is_of = absurd is_of
   gives (Clash clash) is_of =
-      absurd (no_first_clash (lane_of behind) (differing 1 case.first.bits case.second.bits)
-      case.auction clash
-      (all_agree case.width proof sealed (claim_front_text front) case.first case.second
-      is.right.first is.right.first_count is.right.second is.right.second_count differ) is_of)
+      absurd (no_first_clash (two_lane_in two.first two.second) (differing_in two) case.auction clash
+      all_agree is_of)
   gives (Bids found) is_of =
-      ap (λ f. Bids f) (found_same found is_of.head is_of.opened.statement
-      (lanes_are case.width proof sealed (claim_front_text front) case.first case.second
-      is.right.first is.right.first_count is.right.second is.right.second_count differ
-      found.opened is_of.opened))
+      ap (λ f. Bids f) (found_same found is_of.is.head is_of.is.opened.statement
+      (lanes_are found.opened is_of.is.opened))
 
   extracted : claim_extraction_in admitted_plan file (challenge_text case.first)
       (reply_in proof case.first.bits) (challenge_text case.second)
@@ -202,7 +189,7 @@ module _ (kind : ClaimKind) (case : SampleCase) (is : IsCaseOf (sizes_of kind) c
       ap (λ f. claim_extraction_in admitted_plan f (challenge_text case.first)
       (reply_in proof case.first.bits) (challenge_text case.second)
       (reply_in proof case.second.bits)) file_is
-      ∙ gives _ (claims_open admitted_plan claimed plans_are_right claims_are_sound claims_two)
+      ∙ gives _ (claims_open admitted_plan claimed claims_are_sound plans_are_right whole _ _ _ _ two)
 
   -- ---- read back
 
@@ -260,8 +247,8 @@ module _ (kind : ClaimKind) (case : SampleCase) (is : IsCaseOf (sizes_of kind) c
       claim_names.first.reply (reply_in proof case.first.bits) in
       let seals = seals_may_stand case is.right rows all in
       record {
-        board_bytes = file;
-        board_is = record {
+        file_bytes = file;
+        file_is = record {
           is = held_first both_attempts files claim_names.board file refl;
           short = file_is_short proof sealed.right few_wires few_rows (head_with kind case numbers)
               head_is (omega (arith, all.count, is.right.few_seals)) seals;

@@ -1,13 +1,19 @@
 -- What `claim-verify` says holds of the files, and status 0 comes exactly where the reply is
 -- accepted.
-use Rattle.std.proofs.Common.{◌≡◌, ◌≢◌, ℕ, ◌<◌, ◌≤◌, Bool, false, List, Some, Result, Ok, Err, refl, ap, subst, ◌∙◌, arith}
+use Rattle.std.proofs.Common.{◌≡◌, ◌≢◌, ℕ, ◌<◌, ◌≤◌, Bool, false, List, Some, Result, Ok, Err, refl, ap, ◌∙◌, arith, inl, inr}
+use Rattle.std.specs.Prelude.{◌⊎◌}
 use Rattle.vk_io.specs.Files.{Files}
 use Rattle.vk_judge.specs.declared.answers.Part.{Part}
 use Rattle.vk_judge.specs.declared.answers.VErr.{VErr}
-use Rattle.vk_bids.specs.Headline.{HeldAttempt, IsHeldFile}
-use Rattle.vk_claim.specs.declared.verdict.ClaimVerdict.{ClaimVerdict}
-use Rattle.vk_claim.specs.declared.verdict.ClaimVerdict.TheVariants.{Accepted, Malformed, Public, Lanes, Wire, Row}
-use Rattle.vk_claim.specs.Verdicts.{claim_judged, claim_verdict_of, claim_verdict_on}
+use Rattle.vk_judge.specs.declared.answers.Fault.TheVariants.{Malformed, Lanes, Wire, Row}
+use Rattle.vk_judge.specs.declared.opened.Refusal.{Refusal}
+use Rattle.vk_judge.specs.declared.opened.Refusal.TheVariants as refusal
+use Rattle.vk_judge.specs.HeldFiles.{HeldAttempt, IsHeldFile}
+use Rattle.vk_judge.specs.Opened.{file_judged}
+use Rattle.vk_claim.specs.declared.claim.ClaimRefusal.{ClaimRefusal}
+use Rattle.vk_claim.specs.declared.claim.ClaimRefusal.TheVariants.{Public}
+use Rattle.vk_claim.specs.Claims.{claim_at}
+use Rattle.vk_claim.specs.Verdicts.{ClaimJudged, claim_judged_in, claim_judged_on}
 use Rattle.vk_words.specs.Names.{ExtractWords, VerifyWords}
 use Rattle.vk_audit.specs.Inputs.{verify_inputs}
 use Rattle.vk_audit.specs.Verdicts.{answer_said, name_of, unread_said, verified_words}
@@ -15,74 +21,87 @@ use Rattle.vk_audit.proofs.Answered.{IsAlone, answered_tells, attempt_read, atte
 use Rattle.vk_audit.proofs.Inputs.{fault_of, first_unread}
 use Rattle.vk_audit.proofs.Telling.{only_value}
 use Rattle.vk_claims.specs.Circuits.{admitted_plan, plans_are_right}
-use Rattle.vk_claims.specs.Statuses.{AcceptsClaim, ClaimVerifyHolds, HasClaimVerdict, TellsClaimVerdicts, VerifiesClaimsExactly}
-use Rattle.vk_claims.specs.Verdicts.{claim_judged_said}
-use Rattle.vk_claims.proofs.Findings.{verdict_given, verdict_shown}
+use Rattle.vk_claims.specs.Statuses.{AcceptsClaim, ClaimVerifyHolds, HasClaimJudged, TellsClaimVerdicts, VerifiesClaimsExactly}
+use Rattle.vk_claims.specs.Verdicts.{claim_judged_said, claim_refused_said}
+use Rattle.vk_claims.proofs.Findings.{judged_given, judged_shown}
 
--- ---- verdicts
+-- ---- statuses
 
--- only that a reply is accepted has a status below 4 other than 1
-pub status_accepted : (names : ExtractWords) (second : Bool) (verdict : ClaimVerdict)
-    → (claim_judged_said names second verdict).status ≢ 1
-    → (claim_judged_said names second verdict).status < 4 → verdict ≡ Accepted
-status_accepted names second Accepted other small = refl
-status_accepted names second (Malformed part line) other small = absurd (omega arith)
-status_accepted names second Public other small = absurd (other refl)
-status_accepted names second Lanes other small = absurd (other refl)
-status_accepted names second (Wire lane wire fault) other small = absurd (other refl)
-status_accepted names second (Row lane row) other small = absurd (other refl)
+-- what is said of a refusal has the status 1 or 4
+refused_status : (names : ExtractWords) (second : Bool) (refused : Refusal ClaimRefusal)
+    → ((claim_refused_said names second refused).status ≡ 1)
+    ⊎ ((claim_refused_said names second refused).status ≡ 4)
+refused_status names second (refusal.Front Public) = inl refl
+refused_status names second (refusal.Fault (Malformed part line)) = inr refl
+refused_status names second (refusal.Fault Lanes) = inl refl
+refused_status names second (refusal.Fault (Wire lane wire fault)) = inl refl
+refused_status names second (refusal.Fault (Row lane row)) = inl refl
 
-pub status_within : (names : ExtractWords) (second : Bool) (verdict : ClaimVerdict)
-    → (claim_judged_said names second verdict).status ≤ 4
-status_within names second Accepted = omega arith
-status_within names second (Malformed part line) = omega arith
-status_within names second Public = omega arith
-status_within names second Lanes = omega arith
-status_within names second (Wire lane wire fault) = omega arith
-status_within names second (Row lane row) = omega arith
+pub status_refused : (names : ExtractWords) (second : Bool) (refused : Refusal ClaimRefusal)
+    → (claim_refused_said names second refused).status ≢ 1
+    → (claim_refused_said names second refused).status < 4 → ⊥
+status_refused names second refused other small = elim (refused_status names second refused) [
+  | inl one ↦ absurd (other one)
+  | inr four ↦ omega (arith, four, small)
+]
+
+pub status_within : (names : ExtractWords) (second : Bool) (refused : Refusal ClaimRefusal)
+    → (claim_refused_said names second refused).status ≤ 4
+status_within names second refused = elim (refused_status names second refused) [
+  | inl one ↦ omega (arith, one)
+  | inr four ↦ omega (arith, four)
+]
+
+-- so status 0 is said only of a reply that is accepted
+zero_accepted : (names : ExtractWords) (P : ClaimJudged → Type 0) (judged : ClaimJudged) → P judged
+    → (claim_judged_said names judged).status ≡ 0 → P (Ok tt)
+zero_accepted names P (Ok done) holds zero_is = holds
+zero_accepted names P (Err refused) holds zero_is =
+    absurd (status_refused names false refused (λ one. omega (arith, one, zero_is))
+    (omega (arith, zero_is)))
 
 -- ---- the answer
 
 module _ (files : Files) (names : VerifyWords) where
-  abbrev answer : Result ClaimVerdict VErr
-  answer = claim_verdict_on admitted_plan files names.board names.attempt.challenge
+  abbrev answer : Result ClaimJudged VErr
+  answer = claim_judged_on admitted_plan files names.board names.attempt.challenge
       names.attempt.reply
 
   answer_unread : (unread : Part × Bool)
       → first_unread files (name_of (verified_words names)) verify_parts ≡ Some unread
       → answer ≡ Err (fault_of unread)
-  unfolding claim_verdict_on
-  answer_unread unread is = attempt_unread (claim_judged admitted_plan) files names unread is
+  unfolding claim_judged_on
+  answer_unread unread is = attempt_unread (file_judged (claim_at admitted_plan)) files names unread is
 
   answer_read : (board : List ℕ) → IsHeldFile files names.board board
       → (attempt : HeldAttempt files names.attempt.challenge names.attempt.reply)
-      → answer ≡ Ok (claim_verdict_of admitted_plan board attempt.challenge_bytes
+      → answer ≡ Ok (claim_judged_in admitted_plan board attempt.challenge_bytes
       attempt.reply_bytes)
-  unfolding claim_verdict_on
+  unfolding claim_judged_on
   answer_read board is attempt =
-      attempt_read (claim_judged admitted_plan) files names board is attempt
+      attempt_read (file_judged (claim_at admitted_plan)) files names board is attempt
 
   answer_holds : ClaimVerifyHolds files names answer
-  answer_holds = verify_holds files names (HasClaimVerdict files names) answer answer_unread
-      (claim_verdict_of admitted_plan) answer_read (λ board is attempt. record {
+  answer_holds = verify_holds files names (HasClaimJudged files names) answer answer_unread
+      (claim_judged_in admitted_plan) answer_read (λ board is attempt. record {
         board = board;
         board_is = is;
         attempt = attempt;
-        holds = verdict_shown admitted_plan plans_are_right board attempt.challenge_bytes
+        holds = judged_shown admitted_plan plans_are_right board attempt.challenge_bytes
             attempt.reply_bytes _ refl;
       })
 
-  answer_alone : IsAlone (λ _. Unit {0}) (HasClaimVerdict files names) answer
-  answer_alone verdict settles has =
+  answer_alone : IsAlone (λ _. Unit {0}) (HasClaimJudged files names) answer
+  answer_alone judged settles has =
       answer_read has.board has.board_is has.attempt
-      ∙ ap (λ v. Ok v) (verdict_given admitted_plan plans_are_right has.board
-      has.attempt.challenge_bytes has.attempt.reply_bytes verdict has.holds)
+      ∙ ap (λ j. Ok j) (judged_given admitted_plan plans_are_right has.board
+      has.attempt.challenge_bytes has.attempt.reply_bytes judged has.holds)
 
 pub tells_claim_verdicts : TellsClaimVerdicts
 tells_claim_verdicts files names =
-    answered_tells files (verified_words names) verify_parts (HasClaimVerdict files names)
+    answered_tells files (verified_words names) verify_parts (HasClaimJudged files names)
     (answer files names) (answer_unread files names)
-    (claim_judged_said (verified_words names) false) (λ _. Unit {0})
+    (claim_judged_said (verified_words names)) (λ _. Unit {0})
     (answer_alone files names) (answer_holds files names)
 
 -- ---- status 0
@@ -90,14 +109,12 @@ tells_claim_verdicts files names =
 pub verifies_claims_exactly : VerifiesClaimsExactly
 verifies_claims_exactly files names = record {
   only =
-      only_value files (verified_words names) (verify_inputs names) (HasClaimVerdict files names)
-      (claim_judged_said (verified_words names) false) (AcceptsClaim files names)
-      (λ answered holds zero_is. subst (HasClaimVerdict files names)
-      (status_accepted (verified_words names) false answered (λ one. omega arith) (omega arith))
-      holds)
+      only_value files (verified_words names) (verify_inputs names) (HasClaimJudged files names)
+      (claim_judged_said (verified_words names)) (AcceptsClaim files names)
+      (zero_accepted (verified_words names) (HasClaimJudged files names))
       (answer files names) (answer_holds files names);
   always = λ accepts _ _. ap (λ answered. (answer_said
-      (claim_judged_said (verified_words names) false)
-      (unread_said (verified_words names)) answered).status)
-      (answer_alone files names Accepted tt accepts);
+      (claim_judged_said (verified_words names)) (unread_said (verified_words names))
+      answered).status)
+      (answer_alone files names (Ok tt) tt accepts);
 }

@@ -8,11 +8,11 @@ use Rattle.vk_words.specs.Names.{ExtractWords}
 use Rattle.vk_effect.specs.Effects.{SaidValue}
 use Rattle.vk_audit.specs.Verdicts.{answer_said, same_said, unread_said}
 use Rattle.vk_claims.specs.Circuits.{admitted_plan}
-use Rattle.vk_claims.specs.Verdicts.{claim_judged_said}
+use Rattle.vk_claims.specs.Verdicts.{claim_refused_said}
 
--- of a reply to a claim file that isn't accepted the verdict on it, else what the two come to
+-- of a reply to a claim file that is refused why it is, else what the two come to
 abbrev pub claim_extraction_said : ExtractWords → ClaimExtraction → SaidValue
-claim_extraction_said names (Refused second verdict) = claim_judged_said names second verdict
+claim_extraction_said names (Refused second refusal) = claim_refused_said names second refusal
 claim_extraction_said names Same = same_said
 claim_extraction_said names (Clash two) = record { status = 3; text = clash_text two }
 claim_extraction_said names (Bids found) = record { status = 0; text = claim_extraction_text found }

@@ -4,8 +4,8 @@ use Rattle.vk_io.specs.Files.{Files}
 use Rattle.vk_io.specs.Writing.{written}
 use Rattle.vk_reply.specs.Texts.{challenge_text}
 use Rattle.vk_bids.specs.declared.extraction.Extraction.TheVariants.{Bids}
-use Rattle.vk_claim.specs.declared.extraction.OpenedClaim.{OpenedClaim}
 use Rattle.vk_claim.specs.Acceptance.{ClaimAccepts}
+use Rattle.vk_claim.specs.Extraction.{OpenedClaim}
 use Rattle.vk_claim.specs.Texts.{claim_head_text}
 use Rattle.vk_uniform.specs.UniformPlans as sale
 use Rattle.vk_job.specs.Proofs.{ProofValue, file_of, reply_in}

@@ -1,21 +1,20 @@
 -- What the statuses of `claim-verify` and `claim-extract` mean, by the bytes of the named files
 -- alone.
-use Rattle.std.specs.Prelude.{◌≡◌, ◌↔◌, ℕ, false, List, Option, Some, None, Result}
+use Rattle.std.specs.Prelude.{◌≡◌, ◌↔◌, ℕ, List, Option, Some, None, Result, Ok}
 use Rattle.vk_io.specs.Files.{Files}
 use Rattle.vk_judge.specs.declared.answers.VErr.{VErr}
 use Rattle.vk_bids.specs.declared.extraction.Extraction.TheVariants.{Same}
-use Rattle.vk_bids.specs.Headline.{HeldAttempt, IsClashBehind, IsHeldFile}
+use Rattle.vk_judge.specs.HeldFiles.{HeldAttempt, IsHeldFile}
+use Rattle.vk_bids.specs.FileHeadline.{IsClashOf}
 use Rattle.vk_bids.specs.Texts.{clash_text}
 use Rattle.vk_plan.specs.Plans.{PlanValue}
 use Rattle.vk_uniform.specs.UniformPlans.{IsUniformCase, IsUniformClaim, uniform_plan}
 use Rattle.vk_matching.specs.MatchingPlans.{IsMatchingCase, IsMatchingClaim, matching_plan}
 use Rattle.vk_claim.specs.declared.head.Kind.{Kind}
 use Rattle.vk_claim.specs.declared.head.Kind.TheVariants.{Uniform, Matching}
-use Rattle.vk_claim.specs.declared.verdict.ClaimVerdict.{ClaimVerdict}
-use Rattle.vk_claim.specs.declared.verdict.ClaimVerdict.TheVariants.{Accepted}
-use Rattle.vk_claim.specs.Extraction.{ClaimExtraction}
-use Rattle.vk_claim.specs.Headline.{IsClaimOpened, TwoClaimsAccepted}
+use Rattle.vk_claim.specs.Extraction.{ClaimExtraction, IsClaimOpened, TwoClaimsAccepted}
 use Rattle.vk_claim.specs.Printing.{claim_extraction_text}
+use Rattle.vk_claim.specs.Verdicts.{ClaimJudged}
 use Rattle.vk_words.specs.Names.{ExtractWords, VerifyWords}
 use Rattle.vk_audit.specs.Answers.{AnswerHolds, SettlesExtract, TellsAnswer}
 use Rattle.vk_audit.specs.Inputs.{HoldsFiles, extract_inputs, verify_inputs}
@@ -23,7 +22,7 @@ use Rattle.vk_audit.specs.Statuses.{ComesExactly, FindsExactly, HoldsOfSaid, Put
 use Rattle.vk_audit.specs.Verdicts.{answer_said, unread_said, verified_words}
 use Rattle.vk_claims.specs.Circuits.{admitted_plan, claimed}
 use Rattle.vk_claims.specs.Extractions.{claim_extraction_said, claim_extract_said}
-use Rattle.vk_claims.specs.Findings.{ClaimExtractionHolds, ClaimVerdictHolds}
+use Rattle.vk_claims.specs.Findings.{ClaimExtractionHolds, ClaimHolds}
 use Rattle.vk_claims.specs.Verdicts.{claim_judged_said, claim_verify_said}
 
 -- ---- public parts
@@ -49,33 +48,32 @@ AdmitsMatching inputs numbers =
 
 -- ---- `claim-verify`
 
--- the named files are held, and the verdict holds of their bytes
-pub record HasClaimVerdict (files : Files) (names : VerifyWords) (verdict : ClaimVerdict) : Type 0
+-- the named files are held, and judging their bytes comes to this
+pub record HasClaimJudged (files : Files) (names : VerifyWords) (judged : ClaimJudged) : Type 0
   where
     pub board : List ℕ
     pub board_is : IsHeldFile files names.board board
     pub attempt : HeldAttempt files names.attempt.challenge names.attempt.reply
-    pub holds : ClaimVerdictHolds admitted_plan verdict board attempt.challenge_bytes
-        attempt.reply_bytes
+    pub holds : ClaimHolds admitted_plan judged board attempt.challenge_bytes attempt.reply_bytes
 
 -- the reply is accepted with the claim file and the challenge
 abbrev pub AcceptsClaim : Files → VerifyWords → Type 0
-AcceptsClaim files names = HasClaimVerdict files names Accepted
+AcceptsClaim files names = HasClaimJudged files names (Ok tt)
 
 -- status 0 comes exactly where the reply is accepted
 abbrev pub IsClaimVerified : Files → VerifyWords → ℕ → Type 0
 IsClaimVerified files names status = ComesExactly 0 (AcceptsClaim files names) status
 
 -- every end says what holds, and every answer that holds is what is said
-abbrev pub ClaimVerifyHolds : Files → VerifyWords → Result ClaimVerdict VErr → Type 0
+abbrev pub ClaimVerifyHolds : Files → VerifyWords → Result ClaimJudged VErr → Type 0
 ClaimVerifyHolds files names =
-    AnswerHolds files (verified_words names) (verify_inputs names) (HasClaimVerdict files names)
+    AnswerHolds files (verified_words names) (verify_inputs names) (HasClaimJudged files names)
 
 abbrev pub TellsClaimVerdict : Files → VerifyWords → ℕ → Option (List ℕ) → Option (List ℕ) → Type 0
 TellsClaimVerdict files names status old new =
     TellsAnswer (ClaimVerifyHolds files names) (λ _. Unit {0})
-    (answer_said (claim_judged_said (verified_words names) false)
-    (unread_said (verified_words names))) status old new
+    (answer_said (claim_judged_said (verified_words names)) (unread_said (verified_words names)))
+    status old new
 
 -- ---- `claim-extract`
 
@@ -83,7 +81,7 @@ TellsClaimVerdict files names status old new =
 -- differ
 pub record AcceptsTwoClaims (files : Files) (names : ExtractWords) : Type 0 where
   pub held : HoldsFiles files names
-  pub two : TwoClaimsAccepted admitted_plan held.board_bytes held.first.challenge_bytes
+  pub two : TwoClaimsAccepted admitted_plan held.file_bytes held.first.challenge_bytes
       held.first.reply_bytes held.second.challenge_bytes held.second.reply_bytes
 
 -- they are held, and the extraction holds of their bytes
@@ -91,7 +89,7 @@ pub record HasClaimExtraction (files : Files) (names : ExtractWords)
     (extraction : ClaimExtraction) : Type 0 where
   pub held : HoldsFiles files names
   pub holds : ClaimExtractionHolds admitted_plan claimed extraction
-      held.board_bytes held.first.challenge_bytes held.first.reply_bytes held.second.challenge_bytes
+      held.file_bytes held.first.challenge_bytes held.first.reply_bytes held.second.challenge_bytes
       held.second.reply_bytes
 
 -- both replies are accepted, for challenges that don't differ
@@ -110,7 +108,7 @@ abbrev pub IsClaimExtracted : {file challenge reply other second : List ℕ}
     → Option (List ℕ) → Type 0
 IsClaimExtracted two =
     PutsFound (PutsText (IsClaimOpened admitted_plan claimed two) claim_extraction_text)
-    (PutsText (IsClashBehind two.behind) clash_text)
+    (PutsText (IsClashOf two) clash_text)
 
 -- every end says what holds, and every answer that holds is what is said, but for values and a
 -- clash

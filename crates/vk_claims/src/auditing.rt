@@ -12,9 +12,10 @@ use crate::extractions::claim_extracted;
 use crate::verdicts::claim_judged;
 use std::alloc::Global;
 use vk_audit::{replies_of, unread, verified_names};
-use vk_claim::{claim_verdict, extract_claim};
+use vk_claim::{extract_claim, judge_claim};
 use vk_effect::Said;
 use vk_io::{OutsideErr, Shelf};
+use vk_judge::OneReply;
 use vk_words::{AttemptNames, ExtractNames, VerifyNames};
 
 /// What is to be done with a claim file: the names of the files.
@@ -39,8 +40,13 @@ fn claim_verified<S: Shelf>(
     let VerifyNames { board, attempt } = names;
     let names = verified_names(&names);
     let AttemptNames { challenge, reply } = attempt;
-    let said = match claim_verdict(alloc, shelf, &ClaimCircuits, board, challenge, reply) {
-        Ok(verdict) => claim_judged(alloc, &names, false, verdict)?,
+    let files = OneReply {
+        file: board,
+        challenge,
+        reply,
+    };
+    let said = match judge_claim(alloc, shelf, &ClaimCircuits, &files) {
+        Ok(answer) => claim_judged(alloc, &names, answer)?,
         Err(fault) => unread(alloc, &names, fault)?,
     };
     Ok(said)

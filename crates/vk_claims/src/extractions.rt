@@ -8,7 +8,7 @@ ghost use Rattle.vk_bids.specs.declared.extraction.Extraction.TheVariants as com
 ghost use Rattle.vk_words.specs.Names.{extract_seen};
 ghost use Rattle.vk_claims.specs.Extractions.{claim_extraction_said};
 
-use crate::verdicts::claim_judged;
+use crate::verdicts::claim_refused;
 use std::alloc::Global;
 use vk_audit::same_challenge;
 use vk_bids::{Extraction, clash_line};
@@ -17,7 +17,7 @@ use vk_effect::Said;
 use vk_residue::NoMemory;
 use vk_words::ExtractNames;
 
-/// What is said of a reply that isn't accepted, or of what two accepted replies come to. A clash
+/// What is said of a reply that is refused, or of what two accepted replies come to. A clash
 /// takes no memory.
 #[tactic(auto, using(vk_judge::specs::Wanting::memory_was_wanting))]
 pub fn claim_extracted(
@@ -39,7 +39,7 @@ pub fn claim_extracted(
             Ok(Said::of_lines(0, lines))
         }
         Extraction::Refused { second, verdict } => {
-            let said = claim_judged(alloc, names, *second, *verdict)?;
+            let said = claim_refused(alloc, names, *second, *verdict)?;
             Ok(said)
         }
     }

@@ -26,4 +26,4 @@ pub use laws::{
 };
 pub use sample_laws::a_claim_sample_is_accepted_and_opened;
 pub use sampling::claim_sample;
-pub use verdicts::claim_judged;
+pub use verdicts::{claim_judged, claim_refused};

@@ -1,40 +1,49 @@
-//! What is said of the verdict on a claim.
+//! What is said of what judging a claim comes to.
 
-ghost use Rattle.std.specs.Prelude.{◌≡◌, IfOk, IsOk};
+ghost use Rattle.std.specs.Prelude.{◌≡◌, IfOk, IsOk, Ok};
 ghost use Rattle.vk_words.specs.Names.{extract_seen};
-ghost use Rattle.vk_claims.specs.Verdicts.{claim_judged_said};
+ghost use Rattle.vk_claims.specs.Verdicts.{claim_judged_said, claim_refused_said};
 
 use std::alloc::Global;
 use vk_audit::judged;
-use vk_claim::ClaimVerdict;
+use vk_claim::ClaimRefusal;
 use vk_effect::{Said, refused};
+use vk_judge::Refusal;
 use vk_residue::NoMemory;
 use vk_verifier::BoardVerdict;
 use vk_words::ExtractNames;
 
-/// What is said of the verdict on the first reply, or on the second. Of one reply alone both names
-/// are the same. That it is accepted takes no memory.
-pub fn claim_judged(
+/// What is said of the first reply where it is refused, or of the second. Of one reply alone both
+/// names are the same.
+pub fn claim_refused(
     alloc: Global,
     names: &ExtractNames<'_>,
     second: bool,
-    verdict: ClaimVerdict,
+    refusal: Refusal<ClaimRefusal>,
+) -> Result<Said, NoMemory>
+    ensures { IfOk result
+        (λ said. said ≡ claim_refused_said (extract_seen names.now) second refusal) }
+{
+    let said = match refusal {
+        Refusal::Front(ClaimRefusal::Public) => refused(alloc, names.board, "public")?,
+        Refusal::Fault(fault) => judged(alloc, names, second, BoardVerdict::from(fault))?,
+    };
+    Ok(said)
+}
+
+/// What is said of one reply, whose name stands for both. That it is accepted takes no memory.
+pub fn claim_judged(
+    alloc: Global,
+    names: &ExtractNames<'_>,
+    answer: Result<(), Refusal<ClaimRefusal>>,
 ) -> Result<Said, NoMemory>
     ensures said { IfOk result
-        (λ said. said ≡ claim_judged_said (extract_seen names.now) second verdict) }
-    ensures accepted { verdict ≡ ClaimVerdict.Accepted → IsOk result }
+        (λ said. said ≡ claim_judged_said (extract_seen names.now) answer) }
+    ensures accepted { answer ≡ Ok tt → IsOk result }
 {
-    let as_of_board = match verdict {
-        ClaimVerdict::Public => {
-            let said = refused(alloc, names.board, "public")?;
-            return Ok(said);
-        }
-        ClaimVerdict::Accepted => BoardVerdict::Accepted,
-        ClaimVerdict::Malformed { part, line } => BoardVerdict::Malformed { part, line },
-        ClaimVerdict::Lanes => BoardVerdict::Lanes,
-        ClaimVerdict::Wire { lane, wire, fault } => BoardVerdict::Wire { lane, wire, fault },
-        ClaimVerdict::Row { lane, row } => BoardVerdict::Row { lane, row },
+    let said = match answer {
+        Ok(()) => judged(alloc, names, false, BoardVerdict::Accepted)?,
+        Err(refusal) => claim_refused(alloc, names, false, refusal)?,
     };
-    let said = judged(alloc, names, second, as_of_board)?;
     Ok(said)
 }

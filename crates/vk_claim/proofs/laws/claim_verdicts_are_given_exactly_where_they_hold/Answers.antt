@@ -1,4 +1,4 @@
-use Rattle.vk_claim.proofs.Exact.{verdicts_exact}
+use Rattle.vk_claim.proofs.Verdicts.{verdicts_exact}
 use Rattle.vk_claim.proofs.laws.claim_verdicts_are_given_exactly_where_they_hold.Goals as goal
 
 pub returns : goal.returns

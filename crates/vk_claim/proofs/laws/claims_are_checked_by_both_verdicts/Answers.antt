@@ -1,17 +1,23 @@
-use Rattle.vk_claim.proofs.TwoLaw.{accepted_claims_give, claim_files_give, claims_are_extracted_by_finding, claims_find_by_verdicts}
+use Rattle.vk_judge.proofs.FileForms.{accepted_give, finds_by_both}
+use Rattle.vk_bids.proofs.FileHeadline.{extracts_by_finding}
+use Rattle.vk_claim.specs.Acceptance.{claim_form}
+use Rattle.vk_claim.specs.Claims.{claim_at}
+use Rattle.vk_claim.proofs.Fronts.{is_form}
+use Rattle.vk_claim.proofs.Opening.{claim_files_give}
 use Rattle.vk_claim.proofs.laws.claims_are_checked_by_both_verdicts.Goals as goal
 
 pub returns-clause-found : goal.returns-clause-found
-returns-clause-found g c circuits = claims_find_by_verdicts (g.Q.Circuits.admitted circuits)
+returns-clause-found g c circuits = finds_by_both (claim_at (g.Q.Circuits.admitted circuits))
 
 pub returns-clause-extracted : goal.returns-clause-extracted
 returns-clause-extracted g c circuits =
-    claims_are_extracted_by_finding (g.Q.Circuits.admitted circuits)
-    (g.met.Q.Circuits.is_plan circuits)
+    let plans = g.Q.Circuits.admitted circuits in
+    extracts_by_finding (claim_form plans) (is_form plans (g.met.Q.Circuits.is_plan circuits))
 
 pub returns-clause-given : goal.returns-clause-given
 returns-clause-given g c circuits =
-    accepted_claims_give (g.Q.Circuits.admitted circuits) (g.met.Q.Circuits.is_plan circuits)
+    let plans = g.Q.Circuits.admitted circuits in
+    accepted_give (claim_form plans) (is_form plans (g.met.Q.Circuits.is_plan circuits))
 
 pub returns-clause-files : goal.returns-clause-files
 returns-clause-files g c circuits = claim_files_give (g.Q.Circuits.admitted circuits)
