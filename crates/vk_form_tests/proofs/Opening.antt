@@ -22,7 +22,7 @@ use Rattle.vk_judge.proofs.Attempts.{attempt_begun, files_begun}
 use Rattle.vk_judge.proofs.Steps.{read_ok, value_same}
 use Rattle.vk_bids.specs.declared.bids.LaneBids.{LaneBids}
 use Rattle.vk_bids.specs.declared.extraction.Extraction.TheVariants.{Refused, Same, Clash, Bids}
-use Rattle.vk_bids.specs.FileExtraction.{FileExtraction, OpensFile, file_extraction, file_of}
+use Rattle.vk_bids.specs.FileExtraction.{FileExtraction, OpensFile, file_extraction}
 use Rattle.vk_bids.specs.Opening.{LaneOpens}
 use Rattle.vk_form_tests.specs.declared.form.SumHead.{SumHead}
 use Rattle.vk_form_tests.specs.Sums.{SumTo, sum_plan}

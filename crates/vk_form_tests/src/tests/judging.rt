@@ -65,7 +65,9 @@ fn a_wrong_opening_is_refused_at_its_wire(rt: HostRuntime) -> Result<(), Fail> {
         wire: 3,
         fault: WireFault::Digest { second: false },
     };
-    assert!(rt; judge(rt.alloc(), &mut shelf, &named("file", "01", "other"))? == Err(Refusal::Fault(fault)));
+    assert!(rt;
+        judge(rt.alloc(), &mut shelf, &named("file", "01", "other"))? == Err(Refusal::Fault(fault))
+    );
     Ok(())
 }
 
@@ -80,6 +82,8 @@ fn a_total_above_21_is_the_fault_line(rt: HostRuntime) -> Result<(), Fail> {
         part: Part::Board,
         line: 3,
     };
-    assert!(rt; judge(rt.alloc(), &mut shelf, &named("file", "file", "file"))? == Err(Refusal::Fault(fault)));
+    assert!(rt;
+        judge(rt.alloc(), &mut shelf, &named("file", "file", "file"))? == Err(Refusal::Fault(fault))
+    );
     Ok(())
 }
