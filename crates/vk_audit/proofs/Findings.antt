@@ -1,6 +1,5 @@
 -- What two replies come to holds of their bytes, and so does what a secret comes to against them.
-use Rattle.std.proofs.Common.{◌≡◌, ◌≢◌, ℕ, All, Bool, true, false, List, Option, Some, None, Result, Ok, Err, refl, sym, ap, subst, ◌∙◌, inl, inr}
-use Rattle.std.specs.Prelude.{◌⊎◌}
+use Rattle.std.proofs.Common.{◌≡◌, ◌≢◌, ℕ, All, Bool, true, false, List, Result, Ok, Err, refl, sym, ap, subst, ◌∙◌, inl, inr}
 use Rattle.std.specs.Result.{result_err}
 use Rattle.vk_lines.specs.Lines.{Rest}
 use Rattle.vk_seal.specs.declared.secret.Secret.{Secret}
@@ -24,17 +23,15 @@ use Rattle.vk_bids.specs.FileExtraction.{FileExtraction, file_extraction_in}
 use Rattle.vk_bids.specs.FileHeadline.{ExtractionHoldsOf}
 use Rattle.vk_bids.proofs.FileFindings.{file_extraction_holds, file_unfound_found}
 use Rattle.vk_judge.specs.Begun.{from_start}
-use Rattle.vk_commit.specs.Commitment.{TwoOpeningsSeen}
-use Rattle.vk_bids.specs.declared.bids.LaneBids.{LaneBids}
 use Rattle.vk_bids.specs.declared.extraction.Extracted.{Extracted}
 use Rattle.vk_bids.specs.declared.extraction.Extraction.TheVariants.{Refused, Same, Clash, Bids}
 use Rattle.vk_bids.specs.declared.confrontation.Confrontation.{Confrontation}
 use Rattle.vk_bids.specs.declared.confrontation.Confrontation.TheVariants as comes
 use Rattle.vk_bids.specs.Extraction.{Extraction, as_extraction, extraction_in}
-use Rattle.vk_bids.specs.Headline.{IsExtraction, IsFound, IsOf, TwoAccepted}
+use Rattle.vk_bids.specs.Headline.{IsExtraction, IsFound, TwoAccepted}
 use Rattle.vk_bids.specs.Binding.{ClashOr, HasMismatch, IsConfrontationOf}
 use Rattle.vk_bids.specs.Confrontation.{confrontation_in, confrontation_of, found_by, secret_in}
-use Rattle.vk_bids.proofs.Boards.{accepted_are_extracted, is_of, only_accepted_are_extracted, same_is_found}
+use Rattle.vk_bids.proofs.Boards.{is_of, same_is_found}
 use Rattle.vk_bids.proofs.Binding.{others_are_malformed, secrets_are_bound}
 use Rattle.vk_bids.proofs.Agreeing.{no_clash}
 use Rattle.vk_audit.specs.Answers.{SettlesConfront}
