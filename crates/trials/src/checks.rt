@@ -77,8 +77,8 @@ fn attempt_in(named: &[u8]) -> Tried<(AttemptNames<'_>, &[u8])> {
     Ok((AttemptNames { challenge, reply }, behind))
 }
 
-/// Tells what the checker gives and finds of these files: of the first lane how large the circuit is
-/// that it is held to, then how many lanes there are, and what is said of the finding.
+/// Tells what the checker gives and finds of these files: of the first lane how large the circuit
+/// is that it is held to, then how many lanes there are, and what is said of the finding.
 pub fn push_checked(bench: &mut Bench, text: &mut Text, names: &ExtractNames<'_>) -> Tried<()> {
     text.word(names.board.as_bytes());
     push_attempt(text, names.first);

@@ -35,7 +35,8 @@ lanes_show front s lanes is same opens =
     (λ lane. opens_shows front lane.number lane.bids is) lanes
     (subst P same opens)
 
-are_of_board : (base : Option (FileBase PlacedHead)) (found : FileExtraction PlacedHead BoardRefusal)
+are_of_board : (base : Option (FileBase PlacedHead))
+    (found : FileExtraction PlacedHead BoardRefusal)
     → IsOfBoard base → OpensBase base found → AreOfBoard found
 are_of_board base (Refused second refusal) right opens = tt
 are_of_board base Same right opens = tt

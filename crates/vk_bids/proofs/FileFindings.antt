@@ -1,5 +1,5 @@
--- What two replies to a file come to holds of their bytes, and what isn't found is the one extraction
--- that holds.
+-- What two replies to a file come to holds of their bytes, and what isn't found is the one
+-- extraction that holds.
 use Rattle.std.proofs.Common.{◌≡◌, ℕ, Bool, true, false, if◌then◌else◌, List, Result, Ok, Err, refl, sym, ap, subst, ◌∙◌}
 use Rattle.vk_judge.specs.declared.opened.Refusal.{Refusal}
 use Rattle.vk_judge.specs.declared.stage.Finding.{Finding}

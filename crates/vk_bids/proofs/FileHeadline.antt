@@ -1,5 +1,5 @@
--- Two replies to a file of any form that are accepted for different challenges give values for which
--- its circuit holds, or a clash. Only such replies do.
+-- Two replies to a file of any form that are accepted for different challenges give values for
+-- which its circuit holds, or a clash. Only such replies do.
 use Rattle.std.proofs.Common.{◌≡◌, ℕ, Bool, true, false, List, Option, Some, None, IsSome, Result, Ok, Err, refl, sym, ap, subst, ◌∙◌}
 use Rattle.std.specs.Prelude.{◌≢◌}
 use Rattle.vk_commit.specs.Commitment.{TwoOpeningsSeen}
@@ -136,7 +136,8 @@ module _ {F H R : Type 0} (form : Form F H R) (is : IsForm form) (file challenge
   -- where the extraction is that the challenges are the same, they aren't different
   not_different : (two : TwoAccepted form.fronts file challenge reply other second)
       (e : FileExtraction H R) → e ≡ Same → ¬ IsOfFile form two e
-  not_different two e same is_of = subst (λ (e : FileExtraction H R). IsOfFile form two e) same is_of
+  not_different two e same is_of =
+      subst (λ (e : FileExtraction H R). IsOfFile form two e) same is_of
 
   by_bits : (one : Accepts form.fronts file challenge reply)
       (two : Accepts form.fronts file other second) (test : Bool)
@@ -192,7 +193,8 @@ module _ {F H R : Type 0} (form : Form F H R) (is : IsForm form) (file challenge
       let give = accepted_give form is file challenge reply other second both.0 both.1 in
       subst IsSome (sym give.1) refl
 
-  pub found_by_finding : IsFoundBy (λ (refusal : Refusal R). refusal) coming.ahead.finding extraction
+  pub found_by_finding : IsFoundBy (λ (refusal : Refusal R). refusal) coming.ahead.finding
+      extraction
   found_by_finding =
       by_finding coming.base coming.ahead.finding
       (gathered_after (λ (known : FileBase H). known.base.statement) coming.base

@@ -1,5 +1,5 @@
--- The law of two replies to a file of any form that are accepted for different challenges: they open
--- values for which its circuit holds, or give two openings of one commitment.
+-- The law of two replies to a file of any form that are accepted for different challenges: they
+-- open values for which its circuit holds, or give two openings of one commitment.
 use Rattle.std.specs.Prelude.{◌≡◌, ◌≢◌, ◌↔◌, ℕ, Bool, true, false, All, List, map, Err}
 use Rattle.vk_commit.specs.Commitment.{TwoOpeningsSeen}
 use Rattle.vk_wire.specs.declared.wire.Shown.{Shown}
@@ -80,13 +80,16 @@ abbrev pub AcceptedOpen : {F H R : Type 0} → Form F H R → Type 0
 AcceptedOpen form = (file first_challenge first_reply second_challenge second_reply : List ℕ)
     (two : TwoAccepted form.fronts file first_challenge first_reply second_challenge second_reply)
     → IsOfFile form two
-    (file_extraction_in form.front_at file first_challenge first_reply second_challenge second_reply)
+    (file_extraction_in form.front_at file first_challenge first_reply second_challenge
+    second_reply)
 
 -- only such replies do
 abbrev pub OnlyAcceptedOpenFile : {F H R : Type 0} → Form F H R → Type 0
-OnlyAcceptedOpenFile form = (file first_challenge first_reply second_challenge second_reply : List ℕ)
+OnlyAcceptedOpenFile form = (file first_challenge first_reply second_challenge
+    second_reply : List ℕ)
     → IsFound
-    (file_extraction_in form.front_at file first_challenge first_reply second_challenge second_reply)
+    (file_extraction_in form.front_at file first_challenge first_reply second_challenge
+    second_reply)
     → TwoAccepted form.fronts file first_challenge first_reply second_challenge second_reply
 
 -- challenges are found to be the same exactly where both replies are accepted and they are
@@ -102,7 +105,8 @@ ExtractsByFinding form = (file first_challenge first_reply second_challenge seco
     → IsFoundBy (λ refusal. refusal)
     (coming_in form.front_at file first_challenge first_reply second_challenge
     second_reply).ahead.finding
-    (file_extraction_in form.front_at file first_challenge first_reply second_challenge second_reply)
+    (file_extraction_in form.front_at file first_challenge first_reply second_challenge
+    second_reply)
 
 -- ---- by the bytes of the files
 

@@ -24,8 +24,8 @@ pub struct OpenedFile<H> {
 /// What two replies to a file come to.
 pub type FileExtraction<H, R> = Extraction<Refusal<R>, OpenedFile<H>>;
 
-/// What the replies to two challenges come to, of a file that was opened and is read up to its first
-/// lane. Errs where the shelf fails, and for want of memory.
+/// What the replies to two challenges come to, of a file that was opened and is read up to its
+/// first lane. Errs where the shelf fails, and for want of memory.
 #[tactic(auto, using(crate::proofs::FileExtraction::opens_file))]
 pub fn extract_file<S: Shelf, H: Drop, R: Copy>(
     alloc: Global,

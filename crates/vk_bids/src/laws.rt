@@ -45,8 +45,8 @@ pub fn accepted_replies_open_values_or_clash()
 /// different values.
 ///
 /// Only such files give bids or a clash, and the challenges are found to be the same exactly where
-/// both replies are accepted and the bits are equal. What is found is what the verdicts on both come
-/// to. The extraction of named files is that of their bytes.
+/// both replies are accepted and the bits are equal. What is found is what the verdicts on both
+/// come to. The extraction of named files is that of their bytes.
 pub fn accepted_replies_give_bids_or_a_clash()
     ensures given { AcceptedAreExtracted }
     ensures only { OnlyAcceptedAreExtracted }

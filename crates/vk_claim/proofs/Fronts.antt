@@ -1,5 +1,5 @@
--- The front of a claim file is exact: it stops at the fault line, its public part isn't admitted, or
--- its claim is known.
+-- The front of a claim file is exact: it stops at the fault line, its public part isn't admitted,
+-- or its claim is known.
 use Rattle.std.proofs.Common.{◌≡◌, ℕ, ◌+◌, List, ◌++◌, length, Option, Some, None, IfSome, Result, Ok, Err, refl, ap, sym, subst, ◌∙◌}
 use Rattle.std.specs.Prelude.{◌↔◌}
 use Rattle.std.proofs.lemmas.Option.{same_Some}
@@ -107,7 +107,8 @@ module _ (plans : Plans) (file : List ℕ) where
   way = by_front front_read refl
 
   -- what is come to in each
-  abbrev past : Result (ClaimFront × Rest) ℕ → Result (Opened ClaimHead × Rest) (Refusal ClaimRefusal)
+  abbrev past : Result (ClaimFront × Rest) ℕ
+      → Result (Opened ClaimHead × Rest) (Refusal ClaimRefusal)
   past front = claim_past plans (in_part part.Board front)
 
   claim_stops : (line : ℕ) → front_read ≡ Err line
@@ -183,7 +184,8 @@ module _ (plans : Plans) (file : List ℕ) where
 
   shown_by : Way → (opened : Opened ClaimHead) (after : Rest) → read ≡ Ok (opened, after)
       → OpenedFront (claim_form plans) file
-  shown_by (Stops line stop) opened after ok = let stopped = claim_stops line stop in cc (stopped, ok)
+  shown_by (Stops line stop) opened after ok = let stopped = claim_stops line stop in
+      cc (stopped, ok)
   shown_by (Refuses front rest is none) opened after ok =
       let refused = claim_refused front rest is none in cc (refused, ok)
   shown_by (Goes shown rest right is) opened after ok = record {
@@ -203,7 +205,8 @@ module _ (plans : Plans) (file : List ℕ) where
       record { after = at.0; text = at.2; read = claim_found shown at.0 right at.1 }
 
   refused_by : Way → read ≡ Err (refusal.Front Public) → PublicFails plans file
-  refused_by (Stops line stop) refused = let stopped = claim_stops line stop in cc (stopped, refused)
+  refused_by (Stops line stop) refused = let stopped = claim_stops line stop in
+      cc (stopped, refused)
   refused_by (Refuses front rest is none) refused =
       record { front = front; has_front = front_shown front rest is; refused = none }
   refused_by (Goes shown rest right is) refused =

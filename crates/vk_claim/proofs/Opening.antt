@@ -93,8 +93,8 @@ module _ (plans : Plans) (claims : Claims) (sound : AreSound plans claims) where
   pub claims_open : AreRight plans → AcceptedClaimsOpen plans claims
   claims_open plans_right file challenge reply other second two =
       of_claim plans_right two _
-      (accepted_open (claim_form plans) (is_form plans plans_right) file challenge reply other second
-      two)
+      (accepted_open (claim_form plans) (is_form plans plans_right) file challenge reply other
+      second two)
 
 -- the claim that was opened is what is known before the first lane
 pub claim_known : (plans : Plans) (opened : Result (Opened ClaimHead) (Refusal ClaimRefusal))

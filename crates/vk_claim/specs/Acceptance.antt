@@ -1,5 +1,5 @@
--- The form of claim files: when one is accepted with a challenge and a reply, and why it is refused,
--- by whole texts.
+-- The form of claim files: when one is accepted with a challenge and a reply, and why it is
+-- refused, by whole texts.
 use Rattle.std.specs.Prelude.{◌≡◌, ◌↔◌, ℕ, List, Some, None}
 use Rattle.vk_lines.specs.Forms.{fault_line}
 use Rattle.vk_judge.specs.FileForms.{Accepts, Form, Fronts, JudgedHolds}
@@ -64,8 +64,8 @@ claim_form plans = record {
   IsLine = IsClaimLine plans;
 }
 
--- the verdict holds of the files: the reply is accepted, the public part isn't admitted, or there is
--- this fault
+-- the verdict holds of the files: the reply is accepted, the public part isn't admitted, or there
+-- is this fault
 abbrev pub ClaimVerdictHolds : Plans → ClaimVerdict → List ℕ → List ℕ → List ℕ → Type 0
 ClaimVerdictHolds plans verdict = JudgedHolds (claim_form plans) (judged_of verdict)
 

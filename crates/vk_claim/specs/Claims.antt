@@ -1,5 +1,5 @@
--- What is read of a claim file before its first lane: what the lanes are to show, by the plan of its
--- public part.
+-- What is read of a claim file before its first lane: what the lanes are to show, by the plan of
+-- its public part.
 use Rattle.std.specs.Prelude.{◌≡◌, Option, Some, None, Result, Ok, Err}
 use Rattle.vk_residue.specs.Steps.{◌>>=◌}
 use Rattle.vk_lines.specs.Lines.{Rest}

@@ -59,8 +59,8 @@ pub fn accepted_claims_open_values_or_clash<Q: Circuits>()
 
 /// A law, of any circuits: what a checker of two replies to a claim file gives and finds. What is
 /// found is what judging both comes to, and so is what is extracted of them. Two accepted replies
-/// are to one front, and give the lanes 1, 2, .. of the claim file whose text the file is, each with
-/// what the replies show of it. What named files give is what their bytes do.
+/// are to one front, and give the lanes 1, 2, .. of the claim file whose text the file is, each
+/// with what the replies show of it. What named files give is what their bytes do.
 pub fn claims_are_checked_by_both_verdicts<Q: Circuits>()
     ensures found { (circuits : Q) → FindsByBoth (claim_at (Q.admitted circuits)) }
     ensures extracted { (circuits : Q) → ExtractsByFinding (claim_form (Q.admitted circuits)) }

@@ -42,7 +42,8 @@ module _ (files : Files) (names : ExtractWords) where
       → first_unread files (name_of names) extract_parts ≡ Some unread
       → answer ≡ Err (fault_of unread)
   unfolding claim_extraction_on
-  answer_unread unread is = files_unread (file_extraction (claim_at admitted_plan)) files names unread is
+  answer_unread unread is =
+      files_unread (file_extraction (claim_at admitted_plan)) files names unread is
 
   answer_read : (held : HoldsFiles files names) → answer ≡ Ok (of_held held)
   answer_read held =

@@ -1,5 +1,5 @@
--- What two replies to a claim file come to holds of the bytes of the files, and no other that settles
--- it does.
+-- What two replies to a claim file come to holds of the bytes of the files, and no other that
+-- settles it does.
 use Rattle.std.proofs.Common.{◌≡◌, ℕ, All, List, sym, subst}
 use Rattle.vk_judge.proofs.FileForms.{judged_exact}
 use Rattle.vk_bids.specs.declared.extraction.Extraction.TheVariants.{Refused, Same, Clash, Bids}
@@ -40,7 +40,8 @@ module _ (plans : Plans) (claims : Claims) (right : AreRight plans) (sound : Are
       (claim_opened plans claims sound right holds.0 found holds.1).holds
 
   -- what they come to holds of the bytes
-  pub extraction_holds : ClaimExtractionHolds plans claims answered file challenge reply other second
+  pub extraction_holds : ClaimExtractionHolds plans claims answered file challenge reply other
+      second
   extraction_holds =
       let holds = file_extraction_holds (claim_form plans) (is_form plans right) file challenge
       reply other second in

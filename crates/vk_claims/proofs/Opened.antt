@@ -176,7 +176,8 @@ module _ (kind : ClaimKind) (case : SampleCase) (is : IsCaseOf (sizes_of kind) c
   gives (Refused second verdict) is_of = absurd is_of
   gives Same is_of = absurd is_of
   gives (Clash clash) is_of =
-      absurd (no_first_clash (two_lane_in two.first two.second) (differing_in two) case.auction clash
+      absurd (no_first_clash (two_lane_in two.first two.second) (differing_in two) case.auction
+      clash
       all_agree is_of)
   gives (Bids found) is_of =
       ap (λ f. Bids f) (found_same found is_of.is.head is_of.is.opened.statement
@@ -189,7 +190,8 @@ module _ (kind : ClaimKind) (case : SampleCase) (is : IsCaseOf (sizes_of kind) c
       ap (λ f. claim_extraction_in admitted_plan f (challenge_text case.first)
       (reply_in proof case.first.bits) (challenge_text case.second)
       (reply_in proof case.second.bits)) file_is
-      ∙ gives _ (claims_open admitted_plan claimed claims_are_sound plans_are_right whole _ _ _ _ two)
+      ∙ gives _
+      (claims_open admitted_plan claimed claims_are_sound plans_are_right whole _ _ _ _ two)
 
   -- ---- read back
 

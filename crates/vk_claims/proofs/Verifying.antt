@@ -71,7 +71,8 @@ module _ (files : Files) (names : VerifyWords) where
       → first_unread files (name_of (verified_words names)) verify_parts ≡ Some unread
       → answer ≡ Err (fault_of unread)
   unfolding claim_judged_on
-  answer_unread unread is = attempt_unread (file_judged (claim_at admitted_plan)) files names unread is
+  answer_unread unread is =
+      attempt_unread (file_judged (claim_at admitted_plan)) files names unread is
 
   answer_read : (board : List ℕ) → IsHeldFile files names.board board
       → (attempt : HeldAttempt files names.attempt.challenge names.attempt.reply)

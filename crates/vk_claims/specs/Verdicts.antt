@@ -14,8 +14,8 @@ use Rattle.vk_effect.specs.NamedFiles.{refused_said}
 use Rattle.vk_audit.specs.Verdicts.{answer_said, judged_said, unread_said, verified_words}
 use Rattle.vk_claims.specs.Circuits.{admitted_plan}
 
--- what is said of the first reply where it is refused, or of the second: refused is the claim file for
--- its public part, and all else is said as it is of a board
+-- what is said of the first reply where it is refused, or of the second: refused is the claim file
+-- for its public part, and all else is said as it is of a board
 abbrev pub claim_refused_said : ExtractWords → Bool → Refusal ClaimRefusal → SaidValue
 claim_refused_said names second (refusal.Front Public) = refused_said names.board (codes "public")
 claim_refused_said names second (refusal.Fault fault) = judged_said names second (as_verdict fault)

@@ -1,7 +1,7 @@
 //! What the commands on claims say of the files that they read, the circuits that claims may be of,
 //! and `claim-sample`: a claim from one number. Three equal units are sold to ten bidders at one
-//! price, or four men and four women are matched so that no pair blocks. Its seals, its file and both
-//! replies are made, written, read back, judged and extracted.
+//! price, or four men and four women are matched so that no pair blocks. Its seals, its file and
+//! both replies are made, written, read back, judged and extracted.
 #![tactic(auto)]
 
 mod auditing;

@@ -168,7 +168,8 @@ module _ {F H R : Type 0} (form : Form F H R) (is : IsForm form) (file challenge
       → judged ≡ Err (refusal.Fault fault)
   fault_given_by (Malformed part.Board line) (inl stops) = ap past ((is.stops file line).1 stops)
   fault_given_by (Malformed part.Board line) (inr fails) = failed (Malformed part.Board line) fails
-  fault_given_by (Malformed part.Challenge line) fails = failed (Malformed part.Challenge line) fails
+  fault_given_by (Malformed part.Challenge line) fails =
+      failed (Malformed part.Challenge line) fails
   fault_given_by (Malformed part.Reply line) fails = failed (Malformed part.Reply line) fails
   fault_given_by (Malformed part.SecondChallenge line) fails =
       failed (Malformed part.SecondChallenge line) fails
@@ -265,7 +266,8 @@ found_accepted R Ready accepted = accepted
 
 module _ {F H R : Type 0} (form : Form F H R) (is : IsForm form) (file challenge reply other second : List ℕ) where
   abbrev Both : Result (Opened H × Rest) (Refusal R) → Type 0
-  Both read = BothAreAccepted (coming {H = H} {R = R} challenge reply other second read).ahead.finding
+  Both read =
+      BothAreAccepted (coming {H = H} {R = R} challenge reply other second read).ahead.finding
 
   only_by : Way form is file → Both (form.front_at (from_start file))
       → Accepts form.fronts file challenge reply × Accepts form.fronts file other second

@@ -22,8 +22,8 @@ use Rattle.vk_judge.specs.TwoLaw.{bits_in}
 use Rattle.vk_judge.specs.TwoValues.{case_behind, shown_behind}
 use Rattle.vk_judge.specs.Opened.{FileBase, Front, coming_in, judged_in}
 
--- the fronts of a form of file: which of them may stand, what the lanes behind each are to show, and
--- its text
+-- the fronts of a form of file: which of them may stand, what the lanes behind each are to show,
+-- and its text
 pub record Fronts (F : Type 0) : Type 1 where
   pub IsRight : F → Type 0
   pub statement : F → StatementValue
@@ -37,9 +37,9 @@ pub record Accepts {F : Type 0} (fronts : Fronts F) (file challenge reply : List
   pub right : fronts.IsRight front
   pub behind : AcceptsBehind (fronts.statement front) (fronts.text front) file challenge reply
 
--- a form of file: its fronts; how they are read, and the head of each; why a file is refused by what
--- its front says, and where before its first lane it stops being right; and which line of a file is
--- its fault line
+-- a form of file: its fronts; how they are read, and the head of each; why a file is refused by
+-- what its front says, and where before its first lane it stops being right; and which line of a
+-- file is its fault line
 pub record Form (F H R : Type 0) : Type 1 where
   pub fronts : Fronts F
   pub front_at : Front H R

@@ -75,8 +75,8 @@ impl<H, R> Model for Checker<H, R> {
 }
 
 impl<H: Drop, R: Copy> Checker<H, R> {
-    /// Reads both challenges and the heads of both replies, of a file that was opened and is read up
-    /// to its first lane. Errs where the shelf fails, and for want of memory.
+    /// Reads both challenges and the heads of both replies, of a file that was opened and is read
+    /// up to its first lane. Errs where the shelf fails, and for want of memory.
     pub fn begin<S: Shelf>(
         alloc: Global,
         shelf: &mut S,

@@ -25,7 +25,8 @@ pub fn only_replies_accepted_behind_a_front_are_found_to_be()
     ensures { OnlyAcceptedBehind }
 {}
 
-/// A law of files of every form: what is found of two replies is what judging each of them comes to.
+/// A law of files of every form: what is found of two replies is what judging each of them comes
+/// to.
 pub fn a_finding_is_by_both_replies<H, R>()
     ensures { (front : Front H R) → FindsByBoth front }
 {}

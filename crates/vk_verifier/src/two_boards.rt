@@ -22,8 +22,8 @@ use vk_plan::Plan;
 pub type BoardChecker = Checker<PlacedHead, BoardRefusal>;
 
 /// Begins the named files, and reads the board before its first lane, both challenges and the heads
-/// of both replies. Errs where a file is missing or longer than 2^30 bytes, and names the first that
-/// is, in the order of the names; where the shelf fails; and for want of memory.
+/// of both replies. Errs where a file is missing or longer than 2^30 bytes, and names the first
+/// that is, in the order of the names; where the shelf fails; and for want of memory.
 #[tactic(auto, using(crate::proofs::Named::two_begun, crate::proofs::Named::board_known))]
 pub fn begin_board<S: Shelf>(
     alloc: Global,
