@@ -3,6 +3,7 @@
 
 A row's last cell has calls, each followed by the clauses that carry its claim in brackets. A clause belongs to the calls
 before it, back to the last brackets: it has to stand in the contract of one of them, and each of them has to be there.
+`CLAUSE.FIELD` is a fact of a clause that is a record: it has to be a field of that.
 """
 import os
 import re
@@ -13,15 +14,41 @@ PAGE = os.path.join(TOP, "docs", "PROVED.md")
 HEAD = "| Crate | Claim | Call and clauses |"
 ITEM = re.compile(r"\b(fn|struct|enum|trait|type)\s+(\w+)")
 IMPL = re.compile(r"^\s*impl\b(?:<[^{]*?>)?\s+(?:(\w+)(?:<[^{]*>)?\s+for\s+)?&?(\w+)(?:<[^{]*>)?\s*\{", re.MULTILINE)
-CLAUSE = re.compile(r"^\s*(?:ensures\*?\s+(\w+)\s*\{|ghost\s+(?!use\b)(\w+)\s*[:=])", re.MULTILINE)
+CLAUSE = re.compile(r"^\s*(?:ensures\*?\s+(\w+)\s*\{\s*(\w*)|ghost\s+(?!use\b)(\w+)\s*[:=])", re.MULTILINE)
+RECORD = re.compile(r"^pub record (\w+)\b(.*(?:\n[ \t]+.*)*)", re.MULTILINE)
+FIELD = re.compile(r"^\s+pub (\w+) :", re.MULTILINE)
+
+
+def texts(folder, ending):
+    for place, _, names in os.walk(folder):
+        for name in sorted(names):
+            if name.endswith(ending):
+                with open(os.path.join(place, name), encoding="utf-8") as file:
+                    yield file.read()
 
 
 def sources(crate):
-    for folder, _, names in os.walk(os.path.join(TOP, "crates", crate, "src")):
-        for name in sorted(names):
-            if name.endswith(".rt"):
-                with open(os.path.join(folder, name), encoding="utf-8") as file:
-                    yield file.read()
+    return texts(os.path.join(TOP, "crates", crate, "src"), ".rt")
+
+
+def fields_of_records():
+    """The fields of each record that a contract may be, by the record's name."""
+    crates, fields = os.path.join(TOP, "crates"), {}
+    for crate in os.listdir(crates):
+        for text in texts(os.path.join(crates, crate, "specs"), ".antt"):
+            for name, body in RECORD.findall(text):
+                fields.setdefault(name, set()).update(FIELD.findall(body))
+    return fields
+
+
+FIELDS = fields_of_records()
+
+
+def clauses_in(text):
+    """The names of the clauses and of the laws in a contract, and those of the facts in each that is a record."""
+    for clause, word, law in CLAUSE.findall(text):
+        yield clause or law
+        yield from (f"{clause}.{field}" for field in FIELDS.get(word, []))
 
 
 def contracts(crate):
@@ -34,7 +61,7 @@ def contracts(crate):
                        + [(m.start(), m.group(1), "impl of") for m in IMPL.finditer(text) if m.group(1)])
         owner = None
         for (start, name, kind), (end, *_) in zip(marks, marks[1:] + [(len(text),)]):
-            clauses = {one or other for one, other in CLAUSE.findall(text[start:end])}
+            clauses = set(clauses_in(text[start:end]))
             if kind in ("impl", "trait", "struct", "enum"):
                 owner = name
             names = [name, f"{owner}::{name}"] if kind == "fn" and owner else [name]
@@ -67,7 +94,7 @@ def faults_of(row, last, known):
             pending.append(name)
             calls.append(name)
         else:
-            for clause in re.findall(r"`(\w+)`", brackets):
+            for clause in re.findall(r"`(\w+(?:\.\w+)?)`", brackets):
                 if not any(clause in clauses for call in pending for clauses in home(call)):
                     fault.append(f"{', '.join(pending)} of {', '.join(crates)}: no clause {clause}")
             pending = []

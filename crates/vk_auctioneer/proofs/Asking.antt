@@ -3,13 +3,18 @@ use Rattle.std.proofs.Common.{◌≡◌, ℕ, List, [], ◌∷◌, Option, Some,
 use Rattle.std.specs.Prelude.{IfSome}
 use Rattle.std.specs.List.{concat}
 use Rattle.vk_io.specs.declared.errors.OutsideErr.{OutsideErr}
+use Rattle.vk_io.specs.declared.errors.OutsideErr.TheVariants.{Failed}
+use Rattle.vk_io.specs.Faults.{Causes}
 use Rattle.vk_io.specs.Files.{Files, Modelled}
 use Rattle.vk_io.specs.Writing.{written, WritesAll}
 use Rattle.vk_lines.specs.Gives.{Gives}
+use Rattle.vk_keeper.specs.declared.auction.Auction.{Auction}
 use Rattle.vk_keeper.specs.Ledgers.{Ledger}
+use Rattle.vk_keeper.specs.Turns.{Turns}
 use Rattle.vk_house.specs.declared.errors.HouseErr.{HouseErr}
 use Rattle.vk_house.specs.declared.errors.HouseErr.TheVariants.{KeeperFailed, NoMemory}
-use Rattle.vk_house.specs.Answers.{MakesCall}
+use Rattle.vk_house.specs.Answers.{MakesCall, as_reply}
+use Rattle.vk_house.specs.Calls.{CallsHouse}
 use Rattle.vk_house.specs.Commands.{HouseCommand}
 use Rattle.vk_house.specs.Once.{KeepsAnswers}
 use Rattle.vk_house.specs.Replies.{HouseReply, Refused}
@@ -21,8 +26,8 @@ use Rattle.vk_effect.specs.Effects.{Effect, SaidValue, stores}
 use Rattle.vk_effect.specs.Ends.{Acts}
 use Rattle.vk_effect.specs.Reading.{said_of_unread, said_or_stopped}
 use Rattle.vk_effect.proofs.Acting.{told_map}
-use Rattle.vk_auctioneer.specs.Answers.{Leaves, Says}
-use Rattle.vk_auctioneer.specs.Effects.{Writes, asked, effect_by, if_read, on_both, on_ledger}
+use Rattle.vk_auctioneer.specs.Answers.{AsksAlone, Leaves, Says}
+use Rattle.vk_auctioneer.specs.Effects.{Writes, asked, effect_by, if_read, no_file, on_both, on_ledger}
 
 -- ---- files
 
@@ -122,6 +127,26 @@ pub calls_keep : (command : HouseCommand) (reply : HouseReply) (old new : Option
 calls_keep command reply None new calls = calls
 calls_keep command reply (Some old) None calls = absurd calls
 calls_keep command reply (Some old) (Some new) calls = call_keeps old new command reply calls
+
+-- a command that reads and writes no file, by what the house answered it
+pub asks_alone : {K T : Type 0} {ledger_of : K → Option Ledger} {turns_of : K → Turns}
+    {faults_of : K → ℕ} {old new : K}
+    (gives : K → List ℕ → Result (Option Auction) OutsideErr → K → Type 0)
+    (command : HouseCommand) (said : T → HouseReply) (given : Result T HouseErr)
+    (answer : Result SaidValue OutsideErr)
+    → CallsHouse ledger_of turns_of faults_of gives command said given old new
+    → Says command (as_reply said given) answer
+    → (Causes KeeperFailed given (faults_of old) (faults_of new)
+    → Causes Failed answer (faults_of old) (faults_of new))
+    → AsksAlone ledger_of turns_of faults_of (λ kept. asked no_file kept command) answer old new
+asks_alone gives command said given answer calls says causes =
+    record {
+      acts = λ files. asked_acts no_file command (as_reply said given) files files _ _ answer
+          (λ _. refl) calls.step says (leaves_same answer files);
+      once = calls_keep command (as_reply said given) _ _ calls.step;
+      turns = calls.turns;
+      causes = causes calls.causes;
+    }
 
 -- ---- what was read before
 

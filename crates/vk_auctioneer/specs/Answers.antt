@@ -1,12 +1,15 @@
 -- What the parts of a command of the house answer.
-use Rattle.std.specs.Prelude.{◌≡◌, Option, Result, Ok, Err, ◌⊎◌, IfSome}
+use Rattle.std.specs.Prelude.{◌≡◌, ℕ, Option, Result, Ok, Err, ◌⊎◌, IfSome}
 use Rattle.vk_io.specs.declared.errors.OutsideErr.{OutsideErr}
-use Rattle.vk_io.specs.Files.{Files}
+use Rattle.vk_io.specs.declared.errors.OutsideErr.TheVariants.{Failed}
+use Rattle.vk_io.specs.Faults.{Causes}
+use Rattle.vk_io.specs.Files.{Files, Modelled}
 use Rattle.vk_io.specs.Writing.{WritesAll}
 use Rattle.vk_keeper.specs.Ledgers.{Ledger}
 use Rattle.vk_keeper.specs.Turns.{GetsOnce, Turns}
 use Rattle.vk_house.specs.declared.errors.HouseErr.TheVariants.{KeeperFailed, NoMemory}
 use Rattle.vk_house.specs.Commands.{HouseCommand}
+use Rattle.vk_house.specs.Once.{KeepsAnswers}
 use Rattle.vk_house.specs.Replies.{HouseReply, Refused}
 use Rattle.vk_effect.specs.Effects.{Effect, SaidValue, stores}
 use Rattle.vk_effect.specs.Ends.{Acts}
@@ -33,9 +36,18 @@ Leaves writes (Err stop) old new = WritesAll writes (Err stop) old new
 abbrev pub AsksOnce : Turns → Turns → Type 0
 AsksOnce old new = (new ≡ old) ⊎ GetsOnce old new
 
--- whatever the files, a command that reads and writes none did its effect on the ledger
-abbrev pub ActsAlone : (Ledger → Effect) → Result SaidValue OutsideErr → (old new : Option Ledger)
-    → Type 0
-ActsAlone effect answer old new =
-    (files : Option Files) → IfSome (on_ledger effect old)
-    (λ known. Acts answer known (stores files old) (stores files new))
+-- a command that reads and writes no file asked a keeper, of which there are the ledger, where it
+-- is modelled, the calls and the faults
+pub record AsksAlone {K : Type 0} (ledger_of : K → Option Ledger) (turns_of : K → Turns)
+    (faults_of : K → ℕ) (effect : Ledger → Effect) (answer : Result SaidValue OutsideErr)
+    (old new : K) : Type 0 where
+  -- whatever the files, it did its effect on the ledger
+  pub acts : (files : Option Files) → IfSome (on_ledger effect (ledger_of old))
+      (λ known. Acts answer known (stores files (ledger_of old)) (stores files (ledger_of new)))
+  -- whatever its end, an auction that was answered is the same, and one that was proved has its
+  -- seed and its seals
+  pub once : Modelled KeepsAnswers (ledger_of old) (ledger_of new)
+  -- the keeper was asked by one `get`, and after it by at most one `put`
+  pub turns : GetsOnce (turns_of old) (turns_of new)
+  -- the outside failed exactly where the keeper met a fault
+  pub causes : Causes Failed answer (faults_of old) (faults_of new)

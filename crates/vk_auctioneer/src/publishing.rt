@@ -17,7 +17,7 @@ ghost use Rattle.vk_auctioneer.specs.Laws.{IsText};
 ghost use Rattle.vk_auctioneer.specs.Leaving.{LeavesAsSaid};
 ghost use Rattle.vk_auctioneer.specs.Lines.{TakesNoMemory, done_said, proved_line, answered_line};
 
-use crate::refusals::refused;
+use crate::refusals::say_refusal;
 use std::alloc::Global;
 use vk_effect::{Said, Unread, begin_named, named_value};
 use vk_house::{House, HouseErr};
@@ -76,7 +76,7 @@ fn proved<S: Shelf>(
             said
         }
         Err(refusal) => {
-            let said = refused(alloc, 0, refusal);
+            let said = say_refusal(alloc, 0, refusal);
             said
         }
     }
@@ -246,7 +246,7 @@ fn answered<S: Shelf>(
 {
     match answer {
         Err(refusal) => {
-            let said = refused(alloc, 0, refusal);
+            let said = say_refusal(alloc, 0, refusal);
             said
         }
         Ok(job) => {

@@ -20,7 +20,7 @@ use vk_text::ShortText;
 /// What is said of a refusal, or why nothing is said. The seat is that of the seal that was handed
 /// in, 0 where none was. Only the kept challenge's bits take memory: every other refusal is told as
 /// it is.
-pub fn refused(alloc: Global, seat: u16, refusal: HouseErr) -> Result<Said, OutsideErr>
+pub fn say_refusal(alloc: Global, seat: u16, refusal: HouseErr) -> Result<Said, OutsideErr>
     ensures said { IfOk result (λ said. said ≡ refused_said seat refusal) }
     ensures told { TakesNoMemory refusal → result ≡ Ok (refused_said seat refusal) }
     ensures reply { OnOk result (IsReply (Refused refusal)) }

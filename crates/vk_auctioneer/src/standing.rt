@@ -5,12 +5,12 @@ ghost use Rattle.std.specs.Prelude.{◌≡◌, ◌≤◌, ◌+◌, ◌^◌, ◌<
 ghost use Rattle.vk_residue.specs.Limits.{IsSize};
 ghost use Rattle.vk_house.specs.Replies.{Done, Stands};
 ghost use Rattle.vk_house.specs.Commands.{Announce, AnnounceReserve, Show};
-ghost use Rattle.vk_auctioneer.specs.Answers.{ActsAlone, Says};
-ghost use Rattle.vk_auctioneer.specs.Common.{Causes, GetsOnce, KeepsAnswers, Modelled, as_reply};
+ghost use Rattle.vk_auctioneer.specs.Answers.{AsksAlone, Says};
+ghost use Rattle.vk_auctioneer.specs.Common.{Causes, as_reply};
 ghost use Rattle.vk_auctioneer.specs.Effects.{announce_effect, announce_reserve_effect, show_effect};
 ghost use Rattle.vk_auctioneer.specs.Lines.{TakesNoMemory, announced_line, done_said, progress_words, reserve_words, standing_line};
 
-use crate::refusals::{phase_word, refused};
+use crate::refusals::{phase_word, say_refusal};
 use std::alloc::Global;
 use vk_effect::Said;
 use vk_house::{House, HouseErr, Standing};
@@ -28,11 +28,8 @@ pub fn announce<K: Keeper + Drop>(
     lanes: u32,
 ) -> Result<Said, OutsideErr>
     requires { IsSize width lanes }
-    ensures acts { ActsAlone (λ kept. announce_effect kept id.now width lanes) result
-        (K.ledger keeper.old) (K.ledger keeper.new) }
-    ensures once { Modelled KeepsAnswers (K.ledger keeper.old) (K.ledger keeper.new) }
-    ensures turns { GetsOnce (K.turns keeper.old) (K.turns keeper.new) }
-    ensures causes { Causes OutsideErr.Failed result (K.faults keeper.old) (K.faults keeper.new) }
+    ensures { AsksAlone K.ledger K.turns K.faults
+        (λ kept. announce_effect kept id.now width lanes) result keeper.old keeper.new }
 {
     let answer = House::over(keeper).announce(alloc, id, width, lanes);
     let said = announced(alloc, id, answer);
@@ -50,11 +47,9 @@ pub fn announce_reserve<K: Keeper + Drop>(
 ) -> Result<Said, OutsideErr>
     requires size { IsSize width lanes }
     requires small { reserve < 2 ^ width }
-    ensures acts { ActsAlone (λ kept. announce_reserve_effect kept id.now width lanes reserve) result
-        (K.ledger keeper.old) (K.ledger keeper.new) }
-    ensures once { Modelled KeepsAnswers (K.ledger keeper.old) (K.ledger keeper.new) }
-    ensures turns { GetsOnce (K.turns keeper.old) (K.turns keeper.new) }
-    ensures causes { Causes OutsideErr.Failed result (K.faults keeper.old) (K.faults keeper.new) }
+    ensures { AsksAlone K.ledger K.turns K.faults
+        (λ kept. announce_reserve_effect kept id.now width lanes reserve) result keeper.old
+        keeper.new }
 {
     let answer = House::over(keeper).announce_reserve(alloc, id, width, lanes, reserve);
     let said = announced(alloc, id, answer);
@@ -73,7 +68,7 @@ fn announced(alloc: Global, id: &[u8; 16], answer: Result<(), HouseErr>) -> Resu
 {
     match answer {
         Ok(()) => Ok(opened(alloc, id)?),
-        Err(refusal) => refused(alloc, 0, refusal),
+        Err(refusal) => say_refusal(alloc, 0, refusal),
     }
 }
 
@@ -93,11 +88,8 @@ pub fn show<K: Keeper + Drop>(
     keeper: &mut K,
     id: &[u8; 16],
 ) -> Result<Said, OutsideErr>
-    ensures acts { ActsAlone (λ kept. show_effect kept id.now) result (K.ledger keeper.old)
-        (K.ledger keeper.new) }
-    ensures once { Modelled KeepsAnswers (K.ledger keeper.old) (K.ledger keeper.new) }
-    ensures turns { GetsOnce (K.turns keeper.old) (K.turns keeper.new) }
-    ensures causes { Causes OutsideErr.Failed result (K.faults keeper.old) (K.faults keeper.new) }
+    ensures { AsksAlone K.ledger K.turns K.faults
+        (λ kept. show_effect kept id.now) result keeper.old keeper.new }
 {
     let answer = House::over(keeper).show(id);
     let said = shown(alloc, id, answer);
@@ -117,7 +109,7 @@ fn shown(
 {
     match answer {
         Ok(standing) => Ok(Said::of_short(0, standing_line(id, &standing))),
-        Err(refusal) => refused(alloc, 0, refusal),
+        Err(refusal) => say_refusal(alloc, 0, refusal),
     }
 }
 

@@ -7,13 +7,13 @@ ghost use Rattle.vk_seal.specs.Values.{IsSeal, IsSecret};
 ghost use Rattle.vk_house.specs.Commands.{Submit};
 ghost use Rattle.vk_house.specs.Replies.{Position};
 ghost use Rattle.vk_effect.specs.Reading.{said_of_unread};
-ghost use Rattle.vk_auctioneer.specs.Answers.{ActsAlone, AsksOnce, Says};
-ghost use Rattle.vk_auctioneer.specs.Common.{Acts, Causes, CausesTwo, GetsOnce, Gives, KeepsAnswers, OnlyReads, Modelled, as_reply, stores};
+ghost use Rattle.vk_auctioneer.specs.Answers.{AsksAlone, AsksOnce, Says};
+ghost use Rattle.vk_auctioneer.specs.Common.{Acts, Causes, CausesTwo, Gives, KeepsAnswers, OnlyReads, Modelled, as_reply, stores};
 ghost use Rattle.vk_auctioneer.specs.Effects.{asked, no_file, on_both, submit_effect};
 ghost use Rattle.vk_auctioneer.specs.Inputs.{row_in};
 ghost use Rattle.vk_auctioneer.specs.Lines.{TakesNoMemory, done_said, taken_line};
 
-use crate::refusals::refused;
+use crate::refusals::say_refusal;
 use std::alloc::Global;
 use vk_effect::{Said, Unread, begin_named, named_value};
 use vk_house::{House, HouseErr};
@@ -77,11 +77,9 @@ fn hand_in<K: Keeper + Drop>(
 ) -> Result<Said, OutsideErr>
     requires seal { IsSeal row.seal }
     requires secret { IsSecret row.secret }
-    ensures acts { ActsAlone (λ kept. asked no_file kept (Submit id.now row.seal row.secret)) result
-        (K.ledger keeper.old) (K.ledger keeper.new) }
-    ensures once { Modelled KeepsAnswers (K.ledger keeper.old) (K.ledger keeper.new) }
-    ensures turns { GetsOnce (K.turns keeper.old) (K.turns keeper.new) }
-    ensures causes { Causes OutsideErr.Failed result (K.faults keeper.old) (K.faults keeper.new) }
+    ensures { AsksAlone K.ledger K.turns K.faults
+        (λ kept. asked no_file kept (Submit id.now row.seal row.secret)) result keeper.old
+        keeper.new }
 {
     let SealRow { seal, secret } = row;
     let seat = seal.seat;
@@ -100,7 +98,7 @@ fn handed_in(alloc: Global, seat: u16, answer: Result<u32, HouseErr>) -> Result<
 {
     match answer {
         Ok(position) => Ok(taken(alloc, seat, position)?),
-        Err(refusal) => refused(alloc, seat, refusal),
+        Err(refusal) => say_refusal(alloc, seat, refusal),
     }
 }
 

@@ -1,26 +1,29 @@
 -- What a ceremony leaves of the files, turn by turn, whether or not its keeper is modelled.
-use Rattle.std.proofs.Common.{◌≡◌, ℕ, zero, suc, Bool, true, false, ◌||◌, if◌then◌else◌, List, [], ◌∷◌, Option, Some, None, IfSome, Result, Ok, Err, refl, sym, ap, subst, ◌∙◌, inl, inr}
+use Rattle.std.proofs.Common.{◌≡◌, ℕ, zero, suc, Bool, true, false, ◌||◌, if◌then◌else◌, List, [], ◌∷◌, Option, Some, None, IfSome, IfOk, Result, Ok, Err, refl, sym, ap, subst, ◌∙◌, inl, inr}
 use Rattle.vk_io.specs.Files.{Files, Modelled, bytes_of}
 use Rattle.vk_io.specs.declared.errors.OutsideErr.{OutsideErr}
 use Rattle.vk_io.proofs.WritingLemmas.{told_chain, told_same}
 use Rattle.vk_lines.specs.Gives.{Gives}
 use Rattle.vk_lines.specs.Lines.{LinesValue, rest_of}
 use Rattle.vk_effect.specs.declared.reading.Unread.{Unread}
-use Rattle.vk_effect.specs.Effects.{SaidValue, stores}
+use Rattle.vk_keeper.specs.Ledgers.{Ledger}
+use Rattle.vk_effect.specs.Effects.{Outside, SaidValue, outside, stores}
+use Rattle.vk_effect.specs.Ends.{Ends}
 use Rattle.vk_effect.specs.Reading.{said_of_unread, said_or_stopped}
 use Rattle.vk_words.specs.Orders.{HouseWords, Announce, AnnounceReserve, Submit, Prove, Answer, Show}
 use Rattle.vk_words.specs.Scripts.{script_words, written_name_of}
+use Rattle.vk_auctioneer.specs.Effects.{house_effect}
 use Rattle.vk_auctioneer.specs.Leaving.{LeavesAsSaid, LeavesDone, LeavesFiles}
 use Rattle.vk_auctioneer.proofs.Leaving.{ended_stopped}
 use Rattle.vk_ceremony.specs.declared.holding.Turn.{Turn}
 use Rattle.vk_ceremony.specs.declared.holding.Turn.TheVariants.{Next, Ended}
 use Rattle.vk_ceremony.specs.Ceremonies.{EndsSaying, closing_said, goes_on, is_refusal}
-use Rattle.vk_ceremony.specs.Leaving.{BehindLeaves, Continues, HoldLeaves, LeavesAnswered, OrderLeaves, OrdersStop, SaidLeaves, ScriptLeaves, TurnLeaves}
+use Rattle.vk_ceremony.specs.Leaving.{BehindLeaves, Continues, HoldLeaves, LeavesAnswered, OrderLeaves, OrdersStop, SaidLeaves, ScriptLeaves, TakesTurn, TurnLeaves}
 use Rattle.vk_ceremony.specs.Runs.{orders_behind, orders_in}
 use Rattle.vk_ceremony.specs.Scripts.{Script, closes, script_at, script_begun, with_order}
-use Rattle.vk_ceremony.specs.Turns.{order_then}
+use Rattle.vk_ceremony.specs.Turns.{ClosesSaying, IsNextTurn, order_then}
 use Rattle.vk_ceremony.proofs.Leading.{unread_said}
-use Rattle.vk_ceremony.proofs.Turning.{rest_stays, turned}
+use Rattle.vk_ceremony.proofs.Turning.{left_closed, left_stopped, left_turned, rest_stays, turned}
 use Rattle.vk_ceremony.proofs.Writing.{IsOther, insert_leaves, order_leaves}
 
 -- where nothing changed
@@ -112,7 +115,7 @@ turn_leaves script words order refused before lines files (Some new) (Ok status)
     (reads ∙ ap (λ o. order_then script o (rest_of lines files)) (sym is))
 
 -- a line was taken, and its command came to this
-pub order_left : (script : List ℕ) (words : List (List ℕ)) (order : HouseWords) (refused : Bool)
+order_left : (script : List ℕ) (words : List (List ℕ)) (order : HouseWords) (refused : Bool)
     (before lines : LinesValue) (held between now : Option Files) (answer : Result ℕ OutsideErr)
     → between ≡ held → lines.name ≡ script → Some order ≡ script_words script words
     → IfSome held (ReadsOrder script words before lines)
@@ -132,7 +135,7 @@ stays_so [] files = refl
 stays_so (order ∷ orders) files = inl (inl refl)
 
 -- it was stopped, and no file was written
-pub stop_left : (script : List ℕ) (refused : Bool) (before lines : LinesValue) (stop : OutsideErr)
+stop_left : (script : List ℕ) (refused : Bool) (before lines : LinesValue) (stop : OutsideErr)
     (held now : Option Files) → now ≡ held
     → Modelled (TurnLeaves script refused before lines (Err stop)) held now
 stop_left script refused before lines stop held now =
@@ -149,9 +152,9 @@ printing_left order said stop (Some old) (Some new) left =
     ended_stopped order said.status old new left
 
 -- what is said of the script ended it
-pub close_left : (script : List ℕ) (refused : Bool) (before lines : LinesValue)
-    (held now : Option Files)
-    (taken then_ : Option (List ℕ)) (fault : Option ℕ) (status : ℕ) → now ≡ held
+close_left : (script : List ℕ) (refused : Bool) (before lines : LinesValue)
+    (held now : Option Files) (taken then_ : Option (List ℕ)) (fault : Option ℕ) (status : ℕ)
+    → now ≡ held
     → IfSome held (λ files. script_at script (rest_of before files) ≡ closes fault)
     → EndsSaying (closing_said script fault refused) (Ok status) taken then_
     → Modelled (TurnLeaves script refused before lines (Ok (Ended status))) held now
@@ -161,6 +164,68 @@ close_left script refused before lines (Some files) now taken then_ fault status
     (Some files) left) (sym same)
     (subst (λ said. ScriptLeaves script refused said status files files) (sym is)
     ((ends (stores None None)).0, refl))
+
+-- ---- both of a turn
+
+-- it was stopped where nothing changed
+pub stopped_turn : (script : List ℕ) (refused : Bool) (before lines : LinesValue)
+    (stop : OutsideErr) (held now : Option Files) (ledger : Option Ledger)
+    (taken : Option (List ℕ)) → now ≡ held
+    → TakesTurn script refused before lines (Err stop) (outside (stores held ledger) taken)
+    (outside (stores now ledger) taken)
+stopped_turn script refused before lines stop held now ledger taken same = record {
+  turns = left_stopped _ stop held now ledger taken same;
+  files = stop_left script refused before lines stop held now same;
+}
+
+-- the script ended, and that was said of it
+pub closed_turn : (script : List ℕ) (refused : Bool) (before lines : LinesValue)
+    (held now : Option Files) (ledger : Option Ledger) (taken then_ : Option (List ℕ))
+    (fault : Option ℕ) (turn : Result Turn OutsideErr) → now ≡ held
+    → IfSome held (λ files. script_at script (rest_of before files) ≡ closes fault)
+    → ClosesSaying (closing_said script fault refused) turn taken then_
+    → TakesTurn script refused before lines turn (outside (stores held ledger) taken)
+    (outside (stores now ledger) then_)
+closed_turn script refused before lines held now ledger taken then_ fault (Ok (Next again)) same is
+    ends =
+    absurd ends
+closed_turn script refused before lines held now ledger taken then_ fault (Ok (Ended status)) same
+    is ends = record {
+      turns = left_closed script refused before held now ledger taken then_ fault (Ok status) same
+          is ends;
+      files = close_left script refused before lines held now taken then_ fault status same is ends;
+    }
+closed_turn script refused before lines held now ledger taken then_ fault (Err stop) same is ends =
+    record {
+      turns = left_closed script refused before held now ledger taken then_ fault (Err stop) same is
+          ends;
+      files = stop_left script refused before lines stop held now same;
+    }
+
+-- a command of it was done, refused or stopped
+pub order_turn : (script : List ℕ) (words : List (List ℕ)) (order : HouseWords) (refused : Bool)
+    (before lines : LinesValue) (held now : Option Files) (ledger : Option Ledger)
+    (answer : Result ℕ OutsideErr) (taken : Option (List ℕ)) (new : Outside)
+    → now ≡ held → lines.name ≡ script → Some order ≡ script_words script words
+    → IfSome held (ReadsOrder script words before lines)
+    → IfSome (house_effect now ledger order)
+    (λ effect. Ends answer effect (outside (stores now ledger) taken) new)
+    → Modelled (OrderLeaves order answer) now new.files
+    → TakesTurn script refused before lines (turned refused answer)
+    (outside (stores held ledger) taken) new
+order_turn script words order refused before lines held now ledger answer taken new same named is
+    reads ends left = record {
+      turns = left_turned script words order refused before lines held now ledger answer taken new
+          same named is reads ends;
+      files = order_left script words order refused before lines held now new.files answer same
+          named is reads left;
+    }
+
+-- a turn that is the last is none that another follows
+pub last_turn : (turn : Result Turn OutsideErr) (P : Type 0)
+    → IfOk turn (λ t. IsNextTurn t → ⊥) → IfOk turn (λ t. IsNextTurn t → P)
+last_turn (Ok turn) P last = λ next. absurd (last next)
+last_turn (Err stop) P last = tt
 
 -- ---- turn by turn
 

@@ -51,14 +51,6 @@ left_stopped None stop held now ledger taken same = tt
 left_stopped (Some whole) stop held now ledger taken same =
     stopped_here whole stop held now ledger taken same
 
-pub turn_stopped : (script : List ℕ) (lines : LinesValue) (left : Option Ceremony)
-    (stop : OutsideErr) (held now : Option Files) (ledger : Option Ledger)
-    (taken : Option (List ℕ)) → now ≡ held
-    → TurnsSome script lines left (Err stop) (outside (stores held ledger) taken)
-    (outside (stores now ledger) taken)
-turn_stopped script lines left stop held now ledger taken same =
-    left_stopped left stop held now ledger taken same
-
 -- ---- what was read
 
 pub line_told : (script : List ℕ) (held : Option Files) (before lines : LinesValue)

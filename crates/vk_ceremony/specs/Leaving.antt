@@ -1,9 +1,9 @@
 -- What a ceremony leaves of the files where they are modelled, whether or not its keeper is.
 use Rattle.std.specs.Prelude.{◌≡◌, ℕ, ◌||◌, Bool, false, List, [], ◌∷◌, Result, Ok, Err, IsTrue, IsFalse, ◌⊎◌}
-use Rattle.vk_io.specs.Files.{Files}
+use Rattle.vk_io.specs.Files.{Files, Modelled}
 use Rattle.vk_io.specs.declared.errors.OutsideErr.{OutsideErr}
 use Rattle.vk_lines.specs.Lines.{LinesValue, Rest, rest_of}
-use Rattle.vk_effect.specs.Effects.{SaidValue}
+use Rattle.vk_effect.specs.Effects.{Outside, SaidValue}
 use Rattle.vk_words.specs.Orders.{HouseWords}
 use Rattle.vk_auctioneer.specs.Leaving.{LeavesFiles, LeavesStopped}
 use Rattle.vk_ceremony.specs.declared.holding.Turn.{Turn}
@@ -11,6 +11,7 @@ use Rattle.vk_ceremony.specs.declared.holding.Turn.TheVariants.{Next, Ended}
 use Rattle.vk_ceremony.specs.Ceremonies.{closing_said, goes_on, is_refusal}
 use Rattle.vk_ceremony.specs.Runs.{orders_in}
 use Rattle.vk_ceremony.specs.Scripts.{Script, script_at, script_begun}
+use Rattle.vk_ceremony.specs.Turns.{TurnsSome, left_of, stores_of}
 
 -- these orders were done one after another, and each left of the files what its own status says.
 -- One that was done or refused is followed by the next; any other ends the ceremony with its
@@ -96,3 +97,11 @@ TurnLeaves script refused before lines (Ok (Ended status)) old new =
     ScriptLeaves script refused (script_at script (rest_of before old)) status old new
 TurnLeaves script refused before lines (Err stop) old new =
     OrdersStop (script_at script (rest_of before old)).orders old new
+
+-- a turn of a ceremony, from these lines to those behind its line
+pub record TakesTurn (script : List ℕ) (refused : Bool) (before lines : LinesValue)
+    (answer : Result Turn OutsideErr) (old new : Outside) : Type 0 where
+  -- where files and keeper are modelled, of what is left of the ceremony
+  pub turns : TurnsSome script lines (left_of script refused before (stores_of old)) answer old new
+  -- where the files are, whether or not the keeper is, of these
+  pub files : Modelled (TurnLeaves script refused before lines answer) old.files new.files

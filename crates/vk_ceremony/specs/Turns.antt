@@ -6,7 +6,7 @@ use Rattle.vk_lines.specs.declared.step.Step.{Step}
 use Rattle.vk_lines.specs.declared.step.Step.TheVariants as step
 use Rattle.vk_lines.specs.Lines.{LinesValue, Rest, rest_of}
 use Rattle.vk_effect.specs.Counts.{CausesThree}
-use Rattle.vk_effect.specs.Effects.{Effect, IsCommandEnd, Outside, Stores, done, stores}
+use Rattle.vk_effect.specs.Effects.{Effect, IsCommandEnd, Outside, SaidValue, Stores, done, stores}
 use Rattle.vk_words.specs.Orders.{HouseWords}
 use Rattle.vk_words.specs.Scripts.{script_words}
 use Rattle.vk_ceremony.specs.declared.reading.Line.{Line}
@@ -14,7 +14,7 @@ use Rattle.vk_ceremony.specs.declared.reading.Line.TheVariants.{Words, End, Malf
 use Rattle.vk_ceremony.specs.declared.holding.Turn.{Turn}
 use Rattle.vk_ceremony.specs.declared.holding.Turn.TheVariants.{Next, Ended}
 use Rattle.vk_ceremony.specs.Scripts.{Script, closes, over_at, script_at, with_order}
-use Rattle.vk_ceremony.specs.Ceremonies.{Ceremony, EndsAll, ceremony_by, goes_on, is_refusal, with_command}
+use Rattle.vk_ceremony.specs.Ceremonies.{Ceremony, EndsAll, EndsSaying, ceremony_by, goes_on, is_refusal, with_command}
 
 -- ---- a line of a script
 
@@ -77,6 +77,13 @@ abbrev pub TurnsSome : List ℕ → LinesValue → Option Ceremony → Result Tu
     → Outside → Type 0
 TurnsSome script lines left answer old new =
     IfSome left (λ whole. Turns script lines answer whole old new)
+
+-- the ceremony ended, and that was said of it
+abbrev pub ClosesSaying : SaidValue → Result Turn OutsideErr → (taken now : Option (List ℕ))
+    → Type 0
+ClosesSaying said (Ok (Next refused)) taken now = ⊥
+ClosesSaying said (Ok (Ended status)) taken now = EndsSaying said (Ok status) taken now
+ClosesSaying said (Err stop) taken now = EndsSaying said (Err stop) taken now
 
 -- the status at the end is none of a ceremony that was stopped
 abbrev pub EndsWell : Turn → Type 0

@@ -8,8 +8,8 @@ ghost use Rattle.vk_effect.specs.Ends.{Ends};
 ghost use Rattle.vk_auctioneer.specs.Common.{KeepsAnswers, Modelled, stores};
 ghost use Rattle.vk_auctioneer.specs.Effects.{house_effect};
 ghost use Rattle.vk_ceremony.specs.Ceremonies.{EndsSome, ceremony_on};
-ghost use Rattle.vk_ceremony.specs.Leaving.{HoldLeaves, LeavesAnswered, OrderLeaves, TurnLeaves};
-ghost use Rattle.vk_ceremony.specs.Turns.{CausesAny, EndsWell, IsNextTurn, TurnsSome, left_of, turn_by};
+ghost use Rattle.vk_ceremony.specs.Leaving.{HoldLeaves, LeavesAnswered, OrderLeaves, TakesTurn};
+ghost use Rattle.vk_ceremony.specs.Turns.{CausesAny, EndsWell, IsNextTurn, left_of, turn_by};
 
 use crate::closing::{close, say};
 use crate::reading::{Line, begin_script, behind_end, read_line};
@@ -97,7 +97,6 @@ fn hold<S: Shelf, K: Keeper + Drop, W: Sink>(
 }
 
 /// Takes the next line of a script, and does its command.
-#[tactic(auto, using(crate::proofs::Turning::turn_stopped, crate::proofs::Leaving::stop_left))]
 fn next<S: Shelf, K: Keeper + Drop, W: Sink>(
     alloc: Global,
     shelf: &mut S,
@@ -108,13 +107,10 @@ fn next<S: Shelf, K: Keeper + Drop, W: Sink>(
     refused: bool,
 ) -> Result<Turn, OutsideErr>
     requires { lines.now.name ≡ script.now }
-    ensures turns { TurnsSome script.now lines.new (left_of script.now refused lines.old
-        (stores (S.held shelf.old) (K.ledger keeper.old))) result
+    ensures turn { TakesTurn script.now refused lines.old lines.new result
         (outside (stores (S.held shelf.old) (K.ledger keeper.old)) (W.taken out.old))
         (outside (stores (S.held shelf.new) (K.ledger keeper.new)) (W.taken out.new)) }
     ensures end { IfOk result (λ turn. EndsWell turn) }
-    ensures files { Modelled (TurnLeaves script.now refused lines.old lines.new result)
-        (S.held shelf.old) (S.held shelf.new) }
     ensures file { KeepsFile lines.old lines.new }
     ensures taken { IfOk result
         (λ turn. IsNextTurn turn → (lines.new.taken ≡ lines.old.taken + 1)
@@ -130,18 +126,18 @@ fn next<S: Shelf, K: Keeper + Drop, W: Sink>(
                 Ok(turn_by(refused, status))
             }
             None => {
-                let status = close(alloc, out, script, Some(lines.number()), refused)?;
-                Ok(Turn::Ended(status))
+                let turn = close(alloc, out, script, Some(lines.number()), refused);
+                turn
             }
         },
         Line::End => {
             let fault = behind_end(shelf, lines)?;
-            let status = close(alloc, out, script, fault, refused)?;
-            Ok(Turn::Ended(status))
+            let turn = close(alloc, out, script, fault, refused);
+            turn
         }
         Line::Malformed(number) => {
-            let status = close(alloc, out, script, Some(number), refused)?;
-            Ok(Turn::Ended(status))
+            let turn = close(alloc, out, script, Some(number), refused);
+            turn
         }
     }
 }

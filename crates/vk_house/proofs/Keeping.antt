@@ -1,5 +1,5 @@
 -- What was decided, and then kept, is the step of the command.
-use Rattle.std.proofs.Common.{◌≡◌, ℕ, List, Option, Some, None, IfSome, Ok, Err, sym, ap, subst, ◌∙◌}
+use Rattle.std.proofs.Common.{◌≡◌, ℕ, List, Option, Some, None, IfSome, OnErr, Result, Ok, Err, sym, ap, subst, ◌∙◌}
 use Rattle.std.specs.FinMap.{get, insert}
 use Rattle.vk_io.specs.declared.errors.OutsideErr.{OutsideErr}
 use Rattle.vk_io.specs.declared.errors.OutsideErr.TheVariants as outside
@@ -10,8 +10,9 @@ use Rattle.vk_keeper.specs.Ledgers.{Ledger}
 use Rattle.vk_house.specs.Commands.{HouseCommand, id_of}
 use Rattle.vk_house.specs.Replies.{HouseReply, Refused}
 use Rattle.vk_house.specs.declared.working.Decision.{Decision}
+use Rattle.vk_house.specs.declared.errors.HouseErr.{HouseErr}
 use Rattle.vk_house.specs.declared.errors.HouseErr.TheVariants as house
-use Rattle.vk_house.specs.Answers.{MakesCall, work_of}
+use Rattle.vk_house.specs.Answers.{MakesCall, as_reply, work_of}
 use Rattle.vk_house.specs.Deciding.{IsDecisionOn, KeepsAnew, step_of}
 use Rattle.vk_house.specs.Steps.{Step, step_at, ledger_after, house_step}
 
@@ -47,7 +48,7 @@ told_step command found kept reply (Some old) (Some new) finds decided own keeps
     (under (id_of command) kept old new own keeps)
 
 -- the auction was found, nothing changed up to then, and what was decided is kept
-pub step_made : (command : HouseCommand) (found kept : Option Auction) (reply : HouseReply)
+step_made : (command : HouseCommand) (found kept : Option Auction) (reply : HouseReply)
     (old between new : Option Ledger) → IfSome old (λ ledger. found ≡ get ledger (id_of command))
     → between ≡ old → record { reply = reply; kept = kept } ≡ step_at command found
     → IfSome kept (λ auction. auction.id ≡ id_of command)
@@ -89,11 +90,28 @@ refused_call : (command : HouseCommand) (refusal : OutsideErr) (old new : Option
 refused_call command outside.Failed old new same = same
 refused_call command outside.NoMemory old new same = same
 
+-- and the ledger is as before, modelled or not
+same_ledger : (old new : Option Ledger) → Modelled (λ before after. after ≡ before) old new
+    → new ≡ old
+same_ledger None new same = same
+same_ledger (Some old) None same = absurd same
+same_ledger (Some old) (Some new) same = ap Some same
+
+on_refusal : {T : Type 0} (P : Type 0) (result : Result T HouseErr) → P → OnErr result P
+on_refusal P (Ok answer) p = tt
+on_refusal P (Err refusal) p = p
+
 -- nothing changed up to then, and the keeper failed or memory was wanting
-pub keep_failed : (command : HouseCommand) (kept : Option Auction) (refusal : OutsideErr)
-    (old between new : Option Ledger) → between ≡ old
+pub keep_failed : {T : Type 0} (command : HouseCommand) (said : T → HouseReply)
+    (result : Result T HouseErr) (kept : Option Auction) (refusal : OutsideErr)
+    (old between new : Option Ledger)
+    → result ≡ Err (told_as house.KeeperFailed house.NoMemory refusal) → between ≡ old
     → Modelled (KeepsAnew kept (Err refusal)) between new
-    → MakesCall command (Refused (told_as house.KeeperFailed house.NoMemory refusal)) old new
-keep_failed command kept refusal old between new same keeps =
-    refused_call command refusal old new (unchanged kept refusal old new
-    (subst (λ l. Modelled (KeepsAnew kept (Err refusal)) l new) same keeps))
+    → MakesCall command (as_reply said result) old new × OnErr result (new ≡ old)
+keep_failed command said result kept refusal old between new is same keeps =
+    let stays = unchanged kept refusal old new
+    (subst (λ l. Modelled (KeepsAnew kept (Err refusal)) l new) same keeps) in (
+      subst (λ r. MakesCall command (as_reply said r) old new) (sym is)
+          (refused_call command refusal old new stays),
+      on_refusal _ result (same_ledger old new stays),
+    )

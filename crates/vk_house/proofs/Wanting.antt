@@ -1,25 +1,12 @@
--- Where want of memory is answered, it was wanting.
-use Rattle.std.proofs.Common.{◌≡◌, ℕ, List, Option, Some, None, Result, Ok, refl, ap}
-use Rattle.vk_io.specs.declared.errors.OutsideErr.{OutsideErr}
+-- Where a step replies with no refusal, nothing refuses its command.
+use Rattle.std.proofs.Common.{◌≡◌, Option, Some, None, refl, ap}
 use Rattle.vk_keeper.specs.declared.auction.Auction.{Auction}
 use Rattle.vk_house.specs.declared.errors.HouseErr.{HouseErr}
-use Rattle.vk_house.specs.Commands.{HouseCommand, id_of}
+use Rattle.vk_house.specs.Commands.{HouseCommand}
 use Rattle.vk_house.specs.Replies.{HouseReply, Refused}
 use Rattle.vk_house.specs.Refusals.{refusal_of}
 use Rattle.vk_house.specs.Steps.{step_by, step_at, kept_by}
 use Rattle.vk_house.specs.Deciding.{IsDryAtMost}
-use Rattle.vk_house.specs.Wanting.{MayWant, WantsMemory}
-
--- the keeper had answered what stands under the id
-pub command_wants : {K : Type 0}
-    (gives : K → List ℕ → Result (Option Auction) OutsideErr → K → Type 0)
-    (command : HouseCommand) (old between : K) (found : Option Auction)
-    → gives old (id_of command) (Ok found) between → MayWant command found
-    → WantsMemory gives command old
-command_wants gives command old between found gave wants =
-    record { between = between; answer = Ok found; gave = gave; wants = wants }
-
--- ---- a step that replies with no refusal
 
 replied : (refusal : Option HouseErr) (command : HouseCommand) (found kept later : Option Auction)
     (reply : HouseReply)

@@ -9,4 +9,5 @@ pub mod Once
 pub mod Answers
 pub mod Deciding
 pub mod Wanting
+pub mod Calls
 pub mod Former

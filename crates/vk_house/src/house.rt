@@ -1,16 +1,15 @@
-ghost use Rattle.std.specs.Prelude.{◌≡◌, ◌<◌, ◌^◌, IfOk, IfSome, IsErrOf, OnErr, Some};
+ghost use Rattle.std.specs.Prelude.{◌≡◌, ◌<◌, ◌^◌, IfOk, IfSome, Some};
 ghost use Rattle.vk_residue.specs.Limits.{IsSize};
 ghost use Rattle.vk_io.specs.Faults.{Causes};
 ghost use Rattle.vk_io.specs.Files.{Modelled};
 ghost use Rattle.vk_reply.specs.Values.{IsChallenge};
 ghost use Rattle.vk_seal.specs.Values.{IsSeal, IsSecret};
 ghost use Rattle.vk_keeper.specs.Auctions.{IsAuction, seed_of, challenge_of};
-ghost use Rattle.vk_keeper.specs.Turns.{GetsOnce};
-ghost use Rattle.vk_house.specs.Answers.{MakesCall, MayReply, as_reply, work_of};
+ghost use Rattle.vk_house.specs.Answers.{work_of};
+ghost use Rattle.vk_house.specs.Calls.{CallsHouse};
 ghost use Rattle.vk_house.specs.Commands.{Announce, AnnounceReserve, Submit, Prove, Answer, Show};
 ghost use Rattle.vk_house.specs.Deciding.{KeepsAnew, MayPut};
 ghost use Rattle.vk_house.specs.Replies.{Done, Position, Stands};
-ghost use Rattle.vk_house.specs.Wanting.{WantsMemory};
 
 use crate::errors::HouseErr;
 use crate::opening::{decide_announce, decide_submit};
@@ -46,16 +45,9 @@ impl<'a, K: Keeper + Drop> House<'a, K> {
         lanes: u32,
     ) -> Result<(), HouseErr>
         requires { IsSize width lanes }
-        ensures call { MakesCall (Announce id.now width lanes) (as_reply (λ _. Done) result)
-            (K.ledger self.old.keeper.now) (K.ledger self.new.keeper.now) }
-        ensures refused { OnErr result
-            (K.ledger self.new.keeper.now ≡ K.ledger self.old.keeper.now) }
-        ensures reply { MayReply (Announce id.now width lanes) (as_reply (λ _. Done) result) }
-        ensures turns { GetsOnce (K.turns self.old.keeper.now) (K.turns self.new.keeper.now) }
-        ensures causes { Causes HouseErr.KeeperFailed result (K.faults self.old.keeper.now)
-            (K.faults self.new.keeper.now) }
-        ensures memory { IsErrOf result HouseErr.NoMemory
-            → WantsMemory K.get_gives (Announce id.now width lanes) self.old.keeper.now }
+        ensures call { CallsHouse K.ledger K.turns K.faults K.get_gives
+            (Announce id.now width lanes) (λ _. Done) result
+            self.old.keeper.now self.new.keeper.now }
         ensures keeper { self.new.keeper.ghost_name ≡ self.old.keeper.ghost_name }
     {
         let auction = decide_announce(alloc, self.keeper.get(id)?, id, width, lanes, None)?;
@@ -75,19 +67,9 @@ impl<'a, K: Keeper + Drop> House<'a, K> {
     ) -> Result<(), HouseErr>
         requires size { IsSize width lanes }
         requires small { reserve < 2 ^ width }
-        ensures call { MakesCall (AnnounceReserve id.now width lanes reserve)
-            (as_reply (λ _. Done) result) (K.ledger self.old.keeper.now)
-            (K.ledger self.new.keeper.now) }
-        ensures refused { OnErr result
-            (K.ledger self.new.keeper.now ≡ K.ledger self.old.keeper.now) }
-        ensures reply { MayReply (AnnounceReserve id.now width lanes reserve)
-            (as_reply (λ _. Done) result) }
-        ensures turns { GetsOnce (K.turns self.old.keeper.now) (K.turns self.new.keeper.now) }
-        ensures causes { Causes HouseErr.KeeperFailed result (K.faults self.old.keeper.now)
-            (K.faults self.new.keeper.now) }
-        ensures memory { IsErrOf result HouseErr.NoMemory
-            → WantsMemory K.get_gives (AnnounceReserve id.now width lanes reserve)
-            self.old.keeper.now }
+        ensures call { CallsHouse K.ledger K.turns K.faults K.get_gives
+            (AnnounceReserve id.now width lanes reserve) (λ _. Done) result
+            self.old.keeper.now self.new.keeper.now }
         ensures keeper { self.new.keeper.ghost_name ≡ self.old.keeper.ghost_name }
     {
         let reserve = Some(reserve);
@@ -101,16 +83,9 @@ impl<'a, K: Keeper + Drop> House<'a, K> {
     pub fn submit(&mut self, id: &[u8; 16], seal: Seal, secret: Secret) -> Result<u32, HouseErr>
         requires seal { IsSeal seal }
         requires secret { IsSecret secret }
-        ensures call { MakesCall (Submit id.now seal secret) (as_reply Position result)
-            (K.ledger self.old.keeper.now) (K.ledger self.new.keeper.now) }
-        ensures refused { OnErr result
-            (K.ledger self.new.keeper.now ≡ K.ledger self.old.keeper.now) }
-        ensures reply { MayReply (Submit id.now seal secret) (as_reply Position result) }
-        ensures turns { GetsOnce (K.turns self.old.keeper.now) (K.turns self.new.keeper.now) }
-        ensures causes { Causes HouseErr.KeeperFailed result (K.faults self.old.keeper.now)
-            (K.faults self.new.keeper.now) }
-        ensures memory { IsErrOf result HouseErr.NoMemory
-            → WantsMemory K.get_gives (Submit id.now seal secret) self.old.keeper.now }
+        ensures call { CallsHouse K.ledger K.turns K.faults K.get_gives
+            (Submit id.now seal secret) Position result
+            self.old.keeper.now self.new.keeper.now }
         ensures keeper { self.new.keeper.ghost_name ≡ self.old.keeper.ghost_name }
     {
         let joined = decide_submit(self.keeper.get(id)?, seal, secret)?;
@@ -122,19 +97,12 @@ impl<'a, K: Keeper + Drop> House<'a, K> {
     /// are taken; in the later phases nothing new is kept. Refused where the id is unknown, where
     /// no seal or another seed is held, and where the seed is dry.
     pub fn prove(&mut self, alloc: Global, id: &[u8; 16], seed: &[u8; 32]) -> Result<Job, HouseErr>
-        ensures call { MakesCall (Prove id.now seed.now) (as_reply work_of result)
-            (K.ledger self.old.keeper.now) (K.ledger self.new.keeper.now) }
-        ensures refused { OnErr result
-            (K.ledger self.new.keeper.now ≡ K.ledger self.old.keeper.now) }
-        ensures reply { MayReply (Prove id.now seed.now) (as_reply work_of result) }
+        ensures call { CallsHouse K.ledger K.turns K.faults K.get_gives
+            (Prove id.now seed.now) work_of result
+            self.old.keeper.now self.new.keeper.now }
+        ensures keeper { self.new.keeper.ghost_name ≡ self.old.keeper.ghost_name }
         ensures id { IfOk result (λ job. job.auction.id ≡ id.now) }
         ensures seed { IfOk result (λ job. seed_of job.auction.phase ≡ Some seed.now) }
-        ensures turns { GetsOnce (K.turns self.old.keeper.now) (K.turns self.new.keeper.now) }
-        ensures causes { Causes HouseErr.KeeperFailed result (K.faults self.old.keeper.now)
-            (K.faults self.new.keeper.now) }
-        ensures memory { IsErrOf result HouseErr.NoMemory
-            → WantsMemory K.get_gives (Prove id.now seed.now) self.old.keeper.now }
-        ensures keeper { self.new.keeper.ghost_name ≡ self.old.keeper.ghost_name }
     {
         let proving = decide_prove(alloc, self.keeper.get(id)?, seed)?;
         keep(self.keeper, proving.kept)?;
@@ -152,16 +120,9 @@ impl<'a, K: Keeper + Drop> House<'a, K> {
         challenge: &Challenge,
     ) -> Result<Job, HouseErr>
         requires { IsChallenge challenge.now }
-        ensures call { MakesCall (Answer id.now challenge.now) (as_reply work_of result)
-            (K.ledger self.old.keeper.now) (K.ledger self.new.keeper.now) }
-        ensures refused { OnErr result
-            (K.ledger self.new.keeper.now ≡ K.ledger self.old.keeper.now) }
-        ensures reply { MayReply (Answer id.now challenge.now) (as_reply work_of result) }
-        ensures turns { GetsOnce (K.turns self.old.keeper.now) (K.turns self.new.keeper.now) }
-        ensures causes { Causes HouseErr.KeeperFailed result (K.faults self.old.keeper.now)
-            (K.faults self.new.keeper.now) }
-        ensures memory { IsErrOf result HouseErr.NoMemory
-            → WantsMemory K.get_gives (Answer id.now challenge.now) self.old.keeper.now }
+        ensures call { CallsHouse K.ledger K.turns K.faults K.get_gives
+            (Answer id.now challenge.now) work_of result
+            self.old.keeper.now self.new.keeper.now }
         ensures keeper { self.new.keeper.ghost_name ≡ self.old.keeper.ghost_name }
         ensures id { IfOk result (λ job. job.auction.id ≡ id.now) }
         ensures answered { IfOk result
@@ -174,16 +135,9 @@ impl<'a, K: Keeper + Drop> House<'a, K> {
 
     /// How the auction stands. Refused where the id is unknown.
     pub fn show(&mut self, id: &[u8; 16]) -> Result<Standing, HouseErr>
-        ensures call { MakesCall (Show id.now) (as_reply Stands result)
-            (K.ledger self.old.keeper.now) (K.ledger self.new.keeper.now) }
-        ensures refused { OnErr result
-            (K.ledger self.new.keeper.now ≡ K.ledger self.old.keeper.now) }
-        ensures reply { MayReply (Show id.now) (as_reply Stands result) }
-        ensures turns { GetsOnce (K.turns self.old.keeper.now) (K.turns self.new.keeper.now) }
-        ensures causes { Causes HouseErr.KeeperFailed result (K.faults self.old.keeper.now)
-            (K.faults self.new.keeper.now) }
-        ensures memory { IsErrOf result HouseErr.NoMemory
-            → WantsMemory K.get_gives (Show id.now) self.old.keeper.now }
+        ensures call { CallsHouse K.ledger K.turns K.faults K.get_gives
+            (Show id.now) Stands result
+            self.old.keeper.now self.new.keeper.now }
         ensures keeper { self.new.keeper.ghost_name ≡ self.old.keeper.ghost_name }
     {
         let standing = decide_show(self.keeper.get(id)?)?;

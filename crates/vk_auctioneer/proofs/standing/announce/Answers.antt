@@ -1,20 +1,11 @@
-use Rattle.std.proofs.Common.{refl, rules}
-use Rattle.vk_house.specs.Answers.{as_reply}
+use Rattle.std.proofs.Common.{rules}
 use Rattle.vk_house.specs.Commands.{Announce}
 use Rattle.vk_house.specs.Replies.{Done}
-use Rattle.vk_auctioneer.specs.Effects.{no_file}
-use Rattle.vk_auctioneer.proofs.Asking.{asked_acts, calls_keep, leaves_same}
+use Rattle.vk_auctioneer.proofs.Asking.{asks_alone}
 use Rattle.vk_auctioneer.proofs.standing.announce.Goals as goal
 
-pub returns-clause-acts : goal.returns-clause-acts
-returns-clause-acts g c = λ files.
-    let said = c.announced-said.result in
-    asked_acts no_file (Announce c.args.id.now c.args.width c.args.lanes)
-    (as_reply (λ _. Done) c.announce-answer.result) files files _ _ said (λ _. refl)
-    (search rules)
-    (c.announced-said.ensures.said c.args.width c.args.lanes) (leaves_same said files)
-
-pub returns-clause-once : goal.returns-clause-once
-returns-clause-once g c =
-    calls_keep (Announce c.args.id.now c.args.width c.args.lanes)
-    (as_reply (λ _. Done) c.announce-answer.result) _ _ (search rules)
+pub returns : goal.returns
+returns g c =
+    asks_alone g.K.Keeper.get_gives (Announce c.args.id.now c.args.width c.args.lanes) (λ _. Done)
+    c.announce-answer.result c.announced-said.result (search rules)
+    (c.announced-said.ensures.said c.args.width c.args.lanes) (c.announced-said.ensures.causes _ _)

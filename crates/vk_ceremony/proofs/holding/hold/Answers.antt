@@ -18,9 +18,9 @@ lines-init g c = record {
 pub lines-preserved : goal.lines-preserved
 lines-preserved g c = record {
   modelled = leads_on _ _ _ _ _ _ _ _ _ c.in-Next.is c.lines.invariant.modelled
-      c.in_ok-now.ensures.turns;
+      c.in_ok-now.ensures.turn.turns;
   files = leaves_on _ _ c.lines.lines _ _ _ _ _ _ _ c.in-Next.is c.lines.invariant.files
-      c.in_ok-now.ensures.files;
+      c.in_ok-now.ensures.turn.files;
   named = c.in_ok-now.ensures.file.name ∙ c.lines.invariant.named;
   once = keeps_further _ _ _ c.lines.invariant.once c.in_ok-now.ensures.once;
   shelf = c.in_ok-now.ensures.causes.0 ∙ c.lines.invariant.shelf;
