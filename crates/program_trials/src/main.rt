@@ -1,6 +1,6 @@
-//! Trials of the program but for its `main`: over a store in the folder that it runs in, and over
-//! what stands in for the outside. The steps are those of two files, and of each it prints what came
-//! of it.
+//! Trials of the program but for its `main`: over a store in the folder that it runs in, and
+//! over what stands in for the outside. The steps are those of two files, and of each it prints
+//! what came of it.
 #![tactic(auto)]
 
 mod folder;

@@ -42,8 +42,8 @@ fn take_each<T: Stage, W: Sink>(
     Ok(())
 }
 
-/// Takes a step, and tells what came of it. A trial begins with a line `# TEXT`, which is told as it
-/// is.
+/// Takes a step, and tells what came of it. A trial begins with a line `# TEXT`, which is told as
+/// it is.
 fn tell_step<T: Stage>(stage: &mut T, step: &[u8], told: &mut Vec<u8>) -> Tried<()> {
     told.extend_from_slice(step)?;
     let word = text_in(word_at(step, 0)?)?;
