@@ -61,10 +61,12 @@ def data(program, name):
         return [re.split(r" \|(?: |$)", line.rstrip("\n")) for line in file]
 
 
-def trials(program):
-    """How many trials a file of steps has, each of which begins with `#`, and how many steps that aren't said for a reader alone."""
-    with open(os.path.join(TOP, "crates", program, "data", "steps"), encoding="utf-8") as file:
-        heads = Counter(line[:1] for line in file)
+def trials(program, *names):
+    """How many trials the files of steps have, each of which begins with `#`, and how many steps that aren't said for a reader alone."""
+    heads = Counter()
+    for name in names:
+        with open(os.path.join(TOP, "crates", program, "data", name), encoding="utf-8") as file:
+            heads.update(line[:1] for line in file)
     return f"{heads['#']} trials with {sum(heads.values()) - heads['#'] - heads['-']} steps; "
 
 
@@ -108,7 +110,9 @@ def rows():
     for program, what, data_of in (("trials", "whole auctions and claims, matchings, and samples over files that stay as they are", ""),
                                    ("fault_trials", "cut files, and a fault at each call", ""),
                                    ("far_trials", "the largest files, and damage at far places", ""),
-                                   ("edge_trials", "the real files and an output, and calls to the system that go wrong", trials("edge_trials")),
+                                   ("edge_trials", "the real files and an output, and calls to the system that go wrong", trials("edge_trials", "steps")),
+                                   ("program_trials", "the program over a store in real files, and over a house, files and errors in memory",
+                                    trials("program_trials", "memory", "folder")),
                                    ("size_trials", "every command at every size", sizes("size_trials"))):
         yield f"`{program}`, a program that tries {what}", f"{data_of}{lines(program, 'stdout')} lines", "`rt run` in the crate"
     with open(os.path.join(TOP, "crates", "vickrey", "args"), encoding="utf-8") as file:

@@ -55,12 +55,11 @@ fn blocked_of_table(alloc: Global, number: u64) -> Tried<u64> {
 }
 
 /// The eight digits of a number to the base of three, the last first.
-fn digits(alloc: Global, number: u64) -> Result<Vec<u64>, NoMemory> {
-    let mut rest = number;
+fn digits(alloc: Global, mut number: u64) -> Result<Vec<u64>, NoMemory> {
     let mut digits = Vec::new(alloc);
     for _digit in 0..8 {
-        digits.push(rest % 3)?;
-        rest /= 3;
+        digits.push(number % 3)?;
+        number /= 3;
     }
     Ok(digits)
 }
@@ -156,22 +155,18 @@ fn husband_of(matching: &[u32], woman: u32) -> Option<u32> {
 
 /// A man's rank of a woman.
 fn his_rank(size: u32, ranks: &[u64], man: u32, woman: u32) -> u64 {
-    let place = man
-        .saturating_sub(1)
-        .saturating_mul(size)
-        .saturating_add(woman);
-    rank_at(ranks, place)
+    rank_at(size, ranks, man, woman)
 }
 
 /// A woman's rank of a man.
 fn her_rank(size: u32, ranks: &[u64], woman: u32, man: u32) -> u64 {
-    let row = size.saturating_add(woman).saturating_sub(1);
-    rank_at(ranks, row.saturating_mul(size).saturating_add(man))
+    rank_at(size, ranks, size.saturating_add(woman), man)
 }
 
-/// The rank at a place, from 1.
-fn rank_at(ranks: &[u64], place: u32) -> u64 {
-    match ranks.get(place.saturating_sub(1) as usize) {
+/// The rank at a place of a row, both from 1. A row has as many as there are men.
+fn rank_at(size: u32, ranks: &[u64], row: u32, place: u32) -> u64 {
+    let before = row.saturating_sub(1).saturating_mul(size);
+    match ranks.get(before.saturating_add(place).saturating_sub(1) as usize) {
         Some(rank) => *rank,
         None => u64::MAX,
     }

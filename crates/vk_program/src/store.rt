@@ -6,6 +6,7 @@ ghost use Rattle.vk_program.specs.Stores.{is_anothers, is_exposed, lets_in, own_
 
 use crate::house::{HousePlace, Unopened};
 use sqlite::{Connection, File, FileStore};
+use sqlite_disk::Disk;
 use std::alloc::Global;
 use std::fs::{self, Metadata, OpenOptions};
 use std::io::{self, ErrorKind};
@@ -90,8 +91,7 @@ impl HousePlace for StoreHouse<'_> {
     /// What is kept in the log beside the store is copied into it. Where that fails nothing is
     /// lost, since the next opening finds the log; but the fault is told.
     fn close(&mut self, kept: SqlKeeper<FileStore<File>>) -> Result<(), OutsideErr> {
-        let closed = kept.close().close().map_err(Unopened::Database);
-        match counted(&mut self.faults, closed) {
+        match counted(&mut self.faults, closed(kept)) {
             Ok(()) => Ok(()),
             Err(refusal) => Err(refusal.outside()),
         }
@@ -107,22 +107,33 @@ fn open_store(rt: &HostRuntime) -> Result<SqlKeeper<FileStore<File>>, Unopened> 
     let is_new = make_file(rt)?;
     admit(rt, rt.alloc(), is_new)?;
     match Connection::open(rt, STORE) {
-        Ok(connection) => keeper_over(rt, connection),
+        Ok(connection) => keeper_over(rt.alloc(), connection),
         Err(error) => Err(Unopened::Database(error)),
     }
 }
 
+// What follows is generic over what a store's files are: the prover takes much longer over those of
+// the system.
+
 /// The keeper over the store. One that is refused is closed.
-fn keeper_over(
-    rt: &HostRuntime,
-    connection: Connection<FileStore<File>>,
-) -> Result<SqlKeeper<FileStore<File>>, Unopened> {
-    match SqlKeeper::over(rt.alloc(), connection) {
+fn keeper_over<D: Disk + Drop>(
+    alloc: Global,
+    connection: Connection<FileStore<D>>,
+) -> Result<SqlKeeper<FileStore<D>>, Unopened> {
+    match SqlKeeper::over(alloc, connection) {
         Ok(keeper) => Ok(keeper),
         Err((refusal, connection)) => {
             let _ = connection.close();
             Err(Unopened::Store(refusal))
         }
+    }
+}
+
+/// Closes the store of a keeper.
+fn closed<D: Disk + Drop>(kept: SqlKeeper<FileStore<D>>) -> Result<(), Unopened> {
+    match kept.close().close() {
+        Ok(()) => Ok(()),
+        Err(error) => Err(Unopened::Database(error)),
     }
 }
 

@@ -2,16 +2,17 @@
 ghost use Rattle.std.specs.Prelude.{IfOk};
 ghost use Rattle.vk_residue.specs.Limits.{IsSize};
 ghost use Rattle.vk_reply.specs.Values.{IsChallenge};
+ghost use Rattle.vk_seal.specs.Values.{IsSeal, IsSecret};
 ghost use Rattle.vk_keeper.specs.Auctions.{IsAuction};
 
-use crate::texts::{answered_text, found_text, proved_text, refused_text};
+use crate::texts::{answered_text, found_text, owned, proved_text, refused_text, text_in};
 use std::alloc::Global;
 use vk_cases::{Tried, Unreplayed, number_at, word_at};
 use vk_dice::ChaChaWords;
 use vk_house::House;
 use vk_keeper::{Auction, Keeper, MemKeeper};
 use vk_reply::{Challenge, bits_of};
-use vk_seal::make_seal;
+use vk_seal::{Seal, Secret, make_seal};
 
 /// The auction that commands are of which name none.
 const ID: [u8; 16] = [0, 1, 2, 3, 4, 5, 6, 7, 8, 9, 10, 11, 12, 13, 14, 15];
@@ -45,20 +46,45 @@ impl Task<'_> {
 
 /// The auction that is found before it is kept anew, and whether it is the same after.
 fn kept_anew<K: Keeper + Drop>(alloc: Global, keeper: &mut K) -> Tried<String> {
-    let before = found_text(alloc, &keeper.get(&ID))?;
-    if let Ok(Some(auction)) = keeper.get(&ID) {
-        let kept = keeper.put(auction);
-        let after = found_text(alloc, &keeper.get(&ID))?;
-        if kept.is_err() || after.as_str() != before.as_str() {
-            return Ok(format!(in alloc; "{before}, then {after}")?);
-        }
+    let before = found(alloc, keeper, &ID)?;
+    match keep_anew(keeper) {
+        Some(is_kept) => kept_after(alloc, keeper, before, is_kept),
+        None => Ok(before),
     }
-    Ok(before)
+}
+
+/// Keeps the auction anew that is found, and answers whether it was kept. None where none is found.
+fn keep_anew<K: Keeper + Drop>(keeper: &mut K) -> Option<bool> {
+    match keeper.get(&ID) {
+        Ok(Some(auction)) => Some(keeper.put(auction).is_ok()),
+        _ => None,
+    }
+}
+
+/// What was found before, and what is found now where that is something else or it wasn't kept.
+fn kept_after<K: Keeper + Drop>(
+    alloc: Global,
+    keeper: &mut K,
+    before: String,
+    is_kept: bool,
+) -> Tried<String> {
+    let after = found(alloc, keeper, &ID)?;
+    if is_kept && after.as_str() == before.as_str() {
+        return Ok(before);
+    }
+    Ok(format!(in alloc; "{before}, then {after}")?)
+}
+
+/// What the keeper finds.
+fn found<K: Keeper + Drop>(alloc: Global, keeper: &mut K, id: &[u8; 16]) -> Tried<String> {
+    let found = keeper.get(id);
+    let text = found_text(alloc, &found);
+    text
 }
 
 /// What is answered to a command, of the auction that it names.
 fn commanded<K: Keeper + Drop>(alloc: Global, keeper: &mut K, command: &[u8]) -> Tried<String> {
-    if word_at(command, 0)? != b"of".as_slice() {
+    if text_in(word_at(command, 0)?)? != "of" {
         return answered(alloc, keeper, &ID, command);
     }
     let mut id = ID;
@@ -74,15 +100,12 @@ fn answered<K: Keeper + Drop>(
     id: &[u8; 16],
     command: &[u8],
 ) -> Tried<String> {
-    if word_at(command, 0)? != b"keep".as_slice() {
+    if text_in(word_at(command, 0)?)? != "keep" {
         return housed(alloc, keeper, id, command);
     }
     let auction = made(alloc, id, behind_word(command))?;
-    let text = match keeper.put(auction) {
-        Ok(()) => "kept",
-        Err(_) => "fault",
-    };
-    Ok(String::from_str(alloc, text)?)
+    let is_kept = keeper.put(auction).is_ok();
+    owned(alloc, if is_kept { "kept" } else { "fault" })
 }
 
 /// What stands behind the first word.
@@ -101,11 +124,27 @@ fn made(alloc: Global, id: &[u8; 16], commands: &[u8]) -> Tried<Auction>
     ensures { IfOk result IsAuction }
 {
     let mut keeper = MemKeeper::new(alloc);
+    let made = made_in(alloc, &mut keeper, id, commands);
+    made
+}
+
+/// The auction of that id, once these commands are done over the keeper.
+fn made_in<K: Keeper + Drop>(
+    alloc: Global,
+    keeper: &mut K,
+    id: &[u8; 16],
+    commands: &[u8],
+) -> Tried<Auction>
+    ensures { IfOk result IsAuction }
+{
     for command in commands.split(|byte| *byte == b',') {
-        let _said = housed(alloc, &mut keeper, id, command.trim_ascii())?;
+        let _said = housed(alloc, keeper, id, command.trim_ascii())?;
     }
-    let made = keeper.get(id)?.ok_or(Unreplayed::NoCase)?;
-    Ok(made)
+    match keeper.get(id) {
+        Ok(Some(auction)) => Ok(auction),
+        Ok(None) => Err(Unreplayed::NoCase),
+        Err(refusal) => Err(Unreplayed::from(refusal)),
+    }
 }
 
 /// What a house answers to a command.
@@ -115,21 +154,33 @@ fn housed<K: Keeper + Drop>(
     id: &[u8; 16],
     command: &[u8],
 ) -> Tried<String> {
-    match word_at(command, 0)? {
-        b"announce" => announced(alloc, keeper, id, command),
-        b"submit" => submitted(alloc, keeper, id, command),
-        b"prove" => {
-            let proved = House::over(keeper).prove(alloc, id, &SEED);
-            proved_text(alloc, &proved)
-        }
-        b"answer" => {
-            let challenge = challenge_of(alloc, word_at(command, 1)?)?;
-            let answered = House::over(keeper).answer(alloc, id, &challenge);
-            answered_text(alloc, &answered)
-        }
-        b"find" => found_text(alloc, &keeper.get(id)),
+    match text_in(word_at(command, 0)?)? {
+        "announce" => announced(alloc, keeper, id, command),
+        "submit" => submitted(alloc, keeper, id, command),
+        "prove" => proved(alloc, keeper, id),
+        "answer" => answered_to(alloc, keeper, id, word_at(command, 1)?),
+        "find" => found(alloc, keeper, id),
         _ => Err(Unreplayed::NoCase),
     }
+}
+
+fn proved<K: Keeper + Drop>(alloc: Global, keeper: &mut K, id: &[u8; 16]) -> Tried<String> {
+    let proved = House::over(keeper).prove(alloc, id, &SEED);
+    let text = proved_text(alloc, &proved);
+    text
+}
+
+/// What is answered to the challenge of these bits.
+fn answered_to<K: Keeper + Drop>(
+    alloc: Global,
+    keeper: &mut K,
+    id: &[u8; 16],
+    bits: &[u8],
+) -> Tried<String> {
+    let challenge = challenge_of(alloc, bits)?;
+    let answered = House::over(keeper).answer(alloc, id, &challenge);
+    let text = answered_text(alloc, &answered);
+    text
 }
 
 fn announced<K: Keeper + Drop>(
@@ -170,8 +221,23 @@ fn submitted<K: Keeper + Drop>(
         return Err(Unreplayed::NoCase);
     }
     let mut words = ChaChaWords::of(&SEED, id, 65536 + u64::from(seat));
-    let made = make_seal(alloc, bid, seat, id, width, lanes, &mut words);
-    let (secret, seal) = made.map_err(|_refused| Unreplayed::NoCase)?;
+    match make_seal(alloc, bid, seat, id, width, lanes, &mut words) {
+        Ok((secret, seal)) => handed_in(alloc, keeper, id, seal, secret),
+        Err(_refused) => Err(Unreplayed::NoCase),
+    }
+}
+
+/// The seal and its secret are handed in.
+fn handed_in<K: Keeper + Drop>(
+    alloc: Global,
+    keeper: &mut K,
+    id: &[u8; 16],
+    seal: Seal,
+    secret: Secret,
+) -> Tried<String>
+    requires seal { IsSeal seal }
+    requires secret { IsSecret secret }
+{
     match House::over(keeper).submit(id, seal, secret) {
         Ok(position) => Ok(format!(in alloc; "position {position}")?),
         Err(refusal) => refused_text(alloc, &refusal),
@@ -182,8 +248,11 @@ fn submitted<K: Keeper + Drop>(
 fn size_of<K: Keeper + Drop>(keeper: &mut K, id: &[u8; 16]) -> Tried<(u32, u32)>
     ensures { IfOk result (λ size. IsSize size.0 size.1) }
 {
-    let auction = keeper.get(id)?.ok_or(Unreplayed::NoCase)?;
-    Ok((auction.width, auction.lanes))
+    match keeper.get(id) {
+        Ok(Some(auction)) => Ok((auction.width, auction.lanes)),
+        Ok(None) => Err(Unreplayed::NoCase),
+        Err(refusal) => Err(Unreplayed::from(refusal)),
+    }
 }
 
 fn challenge_of(alloc: Global, bits: &[u8]) -> Tried<Challenge>

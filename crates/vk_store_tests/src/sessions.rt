@@ -1,6 +1,7 @@
 // Stores that are closed and opened again, changed, and made by other programs.
 use crate::commands::{Task, behind_word};
 use crate::stores::Image;
+use crate::texts::text_in;
 use std::alloc::Global;
 use vk_cases::{Tried, Unreplayed, number_at, text_of, word_at};
 use vk_io::{Content, Shelf, read_whole};
@@ -11,90 +12,111 @@ const ANSWERED: &[u8] = b"keep announce 4 2, submit 300 7, submit 65535 15, prov
 /// The most bytes that a store has which another program made.
 const MOST_BYTES: u64 = 1 << 20;
 
+// A store is made and dropped in one place, and lent to what is done to it.
+
 /// The commands of a case, each with what came of it over the store that those before it left.
 pub fn house_text(alloc: Global, case: &[u8]) -> Tried<Vec<u8>> {
+    let mut image = Image::none(alloc);
+    let text = told_house(alloc, &mut image, case);
+    text
+}
+
+fn told_house(alloc: Global, image: &mut Image, case: &[u8]) -> Tried<Vec<u8>> {
     let mut text = Vec::new(alloc);
-    let mut image = Image::of(alloc, Vec::new(alloc));
     for part in case.split(|byte| *byte == b'|') {
-        let command = part.trim_ascii();
-        image = after(alloc, &mut text, image, command)?;
+        take_part(alloc, image, part.trim_ascii(), &mut text)?;
     }
     Ok(text)
 }
 
-/// The store behind a part of a case: `run STATEMENTS`, `seals COUNT`, or a command, of which it is
-/// told what came.
-fn after(alloc: Global, text: &mut Vec<u8>, image: Image, command: &[u8]) -> Tried<Image> {
-    match word_at(command, 0)? {
-        b"run" => changed_by(alloc, &image, behind_word(command).trim_ascii()),
-        b"seals" => with_seals(alloc, image, number_at(command, 1, 64)?),
+/// Does a part of a case to the store: `run STATEMENTS`, `seals COUNT`, or a command, of which it
+/// is told what came.
+fn take_part(alloc: Global, image: &mut Image, part: &[u8], text: &mut Vec<u8>) -> Tried<()> {
+    match text_in(word_at(part, 0)?)? {
+        "run" => change(alloc, image, behind_word(part).trim_ascii()),
+        "seals" => hand_in(alloc, image, number_at(part, 1, 64)?),
         _ => {
-            let session = image.whole_session(alloc, &Task::Command(command))?;
-            push_said(text, command, session.text.as_str())?;
-            Ok(session.image)
+            let said = image.take(alloc, &Task::Command(part))?;
+            push_said(text, part, said.as_str())
         }
     }
 }
 
 /// So many seals are handed in, each at its place as its seat and with it as its bid, and the store
 /// is closed and opened between all of them.
-fn with_seals(alloc: Global, mut image: Image, many: u64) -> Tried<Image> {
+fn hand_in(alloc: Global, image: &mut Image, many: u64) -> Tried<()> {
     for i in 0..many {
-        let seat = i + 1;
-        let command = format!(in alloc; "submit {seat} {seat}")?;
-        let session = image.whole_session(alloc, &Task::Command(command.as_bytes()))?;
-        let wanted = format!(in alloc; "position {seat}")?;
-        if session.text.as_str() != wanted.as_str() {
-            return Err(Unreplayed::Outside);
-        }
-        image = session.image;
+        hand_in_one(alloc, image, i + 1)?;
     }
-    Ok(image)
+    Ok(())
+}
+
+fn hand_in_one(alloc: Global, image: &mut Image, seat: u64) -> Tried<()> {
+    let command = format!(in alloc; "submit {seat} {seat}")?;
+    let said = image.take(alloc, &Task::Command(command.as_bytes()))?;
+    let wanted = format!(in alloc; "position {seat}")?;
+    if said.as_str() != wanted.as_str() {
+        return Err(Unreplayed::Outside);
+    }
+    Ok(())
 }
 
 /// The statements of a case, and what is found in the store that they changed.
 pub fn change_text(alloc: Global, case: &[u8]) -> Tried<Vec<u8>> {
-    let answered = made_by(alloc, ANSWERED)?;
-    let changed = changed_by(alloc, &answered, case)?;
-    found_in(alloc, case, &changed)
+    let mut image = Image::none(alloc);
+    let text = changed_text(alloc, &mut image, case);
+    text
+}
+
+fn changed_text(alloc: Global, image: &mut Image, case: &[u8]) -> Tried<Vec<u8>> {
+    make(alloc, image, ANSWERED)?;
+    change(alloc, image, case)?;
+    found_text(alloc, image, case)
 }
 
 /// The name of a store that another program made, and what is found in it.
 pub fn file_text<S: Shelf>(alloc: Global, shelf: &mut S, case: &[u8]) -> Tried<Vec<u8>> {
     let name = text_of(alloc, case)?;
     match read_whole(alloc, shelf, name.as_str(), MOST_BYTES)? {
-        Content::Held(bytes) => found_in(alloc, case, &Image::of(alloc, bytes.into_vec())),
+        Content::Held(bytes) => {
+            let image = Image::of(alloc, bytes.into_vec());
+            let text = found_text(alloc, &image, case);
+            text
+        }
         Content::Missing | Content::TooLong => Err(Unreplayed::NoCase),
     }
 }
 
 /// The case, and what is found in the store.
-fn found_in(alloc: Global, case: &[u8], image: &Image) -> Tried<Vec<u8>> {
-    let session = image.whole_session(alloc, &Task::Find)?;
-    let mut text = Vec::new(alloc);
-    push_said(&mut text, case, session.text.as_str())?;
-    Ok(text)
+fn found_text(alloc: Global, image: &Image, case: &[u8]) -> Tried<Vec<u8>> {
+    let said = image.said(alloc, &Task::Find)?;
+    said_of(alloc, case, said.as_str())
 }
 
-/// The store that one command leaves of none.
-pub fn made_by(alloc: Global, command: &[u8]) -> Tried<Image> {
-    let empty = Image::of(alloc, Vec::new(alloc));
-    let session = empty.whole_session(alloc, &Task::Command(command))?;
-    Ok(session.image)
+/// Does a command to the store, whatever it answers.
+pub fn make(alloc: Global, image: &mut Image, command: &[u8]) -> Tried<()> {
+    let _said = image.take(alloc, &Task::Command(command))?;
+    Ok(())
 }
 
-/// The store once these statements are run on it.
-pub fn changed_by(alloc: Global, image: &Image, statements: &[u8]) -> Tried<Image> {
-    let statements = text_of(alloc, statements)?;
-    let session = image.whole_session(alloc, &Task::Run(statements.as_str()))?;
-    if session.text.as_str() != "ran" {
+/// Runs these statements on the store.
+pub fn change(alloc: Global, image: &mut Image, statements: &[u8]) -> Tried<()> {
+    let said = image.take(alloc, &Task::Run(text_in(statements)?))?;
+    if said.as_str() != "ran" {
         return Err(Unreplayed::NoCase);
     }
-    Ok(session.image)
+    Ok(())
 }
 
 /// A line with what was asked, and what came of it.
-pub fn push_said(text: &mut Vec<u8>, asked: &[u8], said: &str) -> Tried<()> {
+pub fn said_of(alloc: Global, asked: &[u8], said: &str) -> Tried<Vec<u8>> {
+    let mut text = Vec::new(alloc);
+    push_said(&mut text, asked, said)?;
+    Ok(text)
+}
+
+/// Puts such a line behind the text.
+fn push_said(text: &mut Vec<u8>, asked: &[u8], said: &str) -> Tried<()> {
     text.extend_from_slice(asked)?;
     text.extend_from_slice(b": ")?;
     text.extend_from_slice(said.as_bytes())?;

@@ -1,7 +1,7 @@
 // A command that is stopped at each call of the files, and what is found once the machine comes
 // back.
 use crate::commands::Task;
-use crate::sessions::{changed_by, made_by, push_said};
+use crate::sessions::{change, make, said_of};
 use crate::stores::{Image, Session};
 use std::alloc::Global;
 use vk_cases::{Tried, Unreplayed};
@@ -14,7 +14,7 @@ const MOST_CALLS: u64 = 500;
 #[derive(Drop)]
 struct Step<'a> {
     command: &'a [u8],
-    image: Image,
+    image: &'a Image,
     said: String,
     before: String,
     after: String,
@@ -26,24 +26,41 @@ pub fn stop_text(alloc: Global, case: &[u8]) -> Tried<Vec<u8>> {
     let made = parts.next().ok_or(Unreplayed::NoCase)?;
     let statements = parts.next().ok_or(Unreplayed::NoCase)?;
     let command = parts.next().ok_or(Unreplayed::NoCase)?;
-    let made = made_by(alloc, made.trim_ascii())?;
-    let image = changed_by(alloc, &made, statements)?;
-    let step = step_of(alloc, image, command.trim_ascii())?;
-    let is_right = is_right_after(alloc, &step, true)? && is_right_after(alloc, &step, false)?;
+    let is_right = is_right(alloc, made.trim_ascii(), statements, command.trim_ascii())?;
     let said = if is_right {
         "as before or as after"
     } else {
         "wrong"
     };
-    let mut text = Vec::new(alloc);
-    push_said(&mut text, case, said)?;
-    Ok(text)
+    said_of(alloc, case, said)
 }
 
-fn step_of(alloc: Global, image: Image, command: &[u8]) -> Tried<Step<'_>> {
-    let before = image.whole_session(alloc, &Task::Find)?.text;
-    let done = image.whole_session(alloc, &Task::Command(command))?;
-    let after = done.image.whole_session(alloc, &Task::Find)?.text;
+/// Whether what is found is right after each stop of the command, over the store that the first one
+/// made and the statements changed.
+fn is_right(alloc: Global, made: &[u8], statements: &[u8], command: &[u8]) -> Tried<bool> {
+    let mut image = Image::none(alloc);
+    let is_right = is_right_in(alloc, &mut image, made, statements, command);
+    is_right
+}
+
+fn is_right_in(
+    alloc: Global,
+    image: &mut Image,
+    made: &[u8],
+    statements: &[u8],
+    command: &[u8],
+) -> Tried<bool> {
+    make(alloc, image, made)?;
+    change(alloc, image, statements)?;
+    let step = step_of(alloc, image, command)?;
+    let is_right = is_right_of(alloc, &step);
+    is_right
+}
+
+fn step_of<'a>(alloc: Global, image: &'a Image, command: &'a [u8]) -> Tried<Step<'a>> {
+    let before = image.said(alloc, &Task::Find)?;
+    let done = image.session(alloc, &Task::Command(command), u64::MAX, u64::MAX)?;
+    let after = done.image.said(alloc, &Task::Find)?;
     Ok(Step {
         command,
         image,
@@ -51,6 +68,11 @@ fn step_of(alloc: Global, image: Image, command: &[u8]) -> Tried<Step<'_>> {
         before,
         after,
     })
+}
+
+/// Whether it is right after a stop at each call of the log, and at each of the store itself.
+fn is_right_of(alloc: Global, step: &Step) -> Tried<bool> {
+    Ok(is_right_after(alloc, step, true)? && is_right_after(alloc, step, false)?)
 }
 
 /// Whether what is found is right after a stop at each call of the log, or of the store itself,
@@ -77,15 +99,27 @@ fn is_right_after(alloc: Global, step: &Step, is_log: bool) -> Tried<bool> {
 /// Whether the auction is as before the command or as after it once the machine came back, as after
 /// it where it was done, and as after it once it was done again.
 fn comes_back(alloc: Global, step: &Step, session: &Session) -> Tried<bool> {
-    let found = session.image.whole_session(alloc, &Task::Find)?;
-    let again = session
-        .image
-        .whole_session(alloc, &Task::Command(step.command))?;
-    let last = again.image.whole_session(alloc, &Task::Find)?;
+    let command = Task::Command(step.command);
+    let found = session.image.said(alloc, &Task::Find)?;
+    let again = session.image.session(alloc, &command, u64::MAX, u64::MAX)?;
+    let last = again.image.said(alloc, &Task::Find)?;
+    let is_right = is_right_behind(step, session, found.as_str(), &again, last.as_str());
+    Ok(is_right)
+}
+
+/// Whether that is right which was found behind a stop, which came of the command once it was done
+/// again, and which was found last.
+fn is_right_behind(
+    step: &Step,
+    session: &Session,
+    found: &str,
+    again: &Session,
+    last: &str,
+) -> bool {
     let is_done = session.text.as_str() == step.said.as_str();
-    let is_after = found.text.as_str() == step.after.as_str();
-    let is_before = found.text.as_str() == step.before.as_str();
+    let is_after = found == step.after.as_str();
+    let is_before = found == step.before.as_str();
     let is_again = again.text.as_str() == step.said.as_str();
-    let is_last = last.text.as_str() == step.after.as_str();
-    Ok((is_after || is_before && !is_done) && (is_again || is_after) && is_last)
+    let is_last = last == step.after.as_str();
+    (is_after || is_before && !is_done) && (is_again || is_after) && is_last
 }

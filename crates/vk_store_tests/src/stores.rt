@@ -1,7 +1,7 @@
 // Stores in memory: what their files hold, how they are opened and closed, and what is done to them
 // between.
 use crate::commands::Task;
-use crate::texts::refusal_text;
+use crate::texts::{owned, refusal_text};
 use sqlite::{Alter, Connection, FileStore, Files, Options};
 use sqlite_disk::{Crash, Disk, Fuse, Memory};
 use std::alloc::Global;
@@ -27,6 +27,11 @@ pub struct Session {
 }
 
 impl Image {
+    /// No store yet.
+    pub fn none(alloc: Global) -> Image {
+        Image::of(alloc, Vec::new(alloc))
+    }
+
     /// A store whose log is empty.
     pub fn of(alloc: Global, db: Vec<u8>) -> Image {
         Image {
@@ -39,20 +44,24 @@ impl Image {
     pub fn session(&self, alloc: Global, task: &Task, of_log: u64, of_db: u64) -> Tried<Session> {
         let log = disk(alloc, self.log.as_slice(), of_log)?;
         let db = disk(alloc, self.db.as_slice(), of_db)?;
-        let (text, whole, files) = done_in(alloc, Files { log, db }, task)?;
-        let Files { mut log, mut db } = files;
-        log.crash();
-        db.crash();
-        let image = Image {
-            log: Vec::from_slice(alloc, log.inner().bytes())?,
-            db: Vec::from_slice(alloc, db.inner().bytes())?,
-        };
+        let (text, whole, files) = done_in(alloc, Files { log, db }, task);
+        let image = left_in(alloc, files)?;
+        let text = text?;
         Ok(Session { text, whole, image })
     }
 
-    /// Does the task over files that take all calls.
-    pub fn whole_session(&self, alloc: Global, task: &Task) -> Tried<Session> {
-        self.session(alloc, task, u64::MAX, u64::MAX)
+    /// What comes of the task over files that take all calls.
+    pub fn said(&self, alloc: Global, task: &Task) -> Tried<String> {
+        let session = self.session(alloc, task, u64::MAX, u64::MAX)?;
+        Ok(session.text)
+    }
+
+    /// Does the task over files that take all calls, and is then what these hold. Answers what came
+    /// of it.
+    pub fn take(&mut self, alloc: Global, task: &Task) -> Tried<String> {
+        let session = self.session(alloc, task, u64::MAX, u64::MAX)?;
+        *self = session.image;
+        Ok(session.text)
     }
 }
 
@@ -65,6 +74,21 @@ fn disk(alloc: Global, bytes: &[u8], calls: u64) -> Tried<Fuse<Memory>> {
     Ok(Fuse::new(memory, calls))
 }
 
+/// What the files hold once the machine stopped.
+fn left_in(alloc: Global, mut files: Files<Fuse<Memory>>) -> Tried<Image> {
+    files.log.crash();
+    files.db.crash();
+    let left = image_of(alloc, &files);
+    left
+}
+
+/// What the files hold.
+fn image_of(alloc: Global, files: &Files<Fuse<Memory>>) -> Tried<Image> {
+    let log = Vec::from_slice(alloc, files.log.inner().bytes())?;
+    let db = Vec::from_slice(alloc, files.db.inner().bytes())?;
+    Ok(Image { log, db })
+}
+
 // What follows takes a store and gives it back, so that no store of files is dropped: to prove that
 // is dear.
 
@@ -72,14 +96,14 @@ fn done_in<D: Disk + Drop>(
     alloc: Global,
     files: Files<D>,
     task: &Task,
-) -> Tried<(String, bool, Files<D>)> {
+) -> (Tried<String>, bool, Files<D>) {
     match opened(alloc, files) {
         Ok(connection) => {
-            let (text, connection) = done_over(alloc, connection, task)?;
+            let (text, connection) = done_over(alloc, connection, task);
             let (files, whole) = closed(connection);
-            Ok((text, whole, files))
+            (text, whole, files)
         }
-        Err(files) => Ok((String::from_str(alloc, "unopened")?, false, files)),
+        Err(files) => (owned(alloc, "unopened"), false, files),
     }
 }
 
@@ -110,24 +134,21 @@ fn done_over<S: Alter + Drop>(
     alloc: Global,
     mut connection: Connection<S>,
     task: &Task,
-) -> Tried<(String, Connection<S>)> {
+) -> (Tried<String>, Connection<S>) {
     if let Task::Run(statements) = task {
-        let text = ran(alloc, &mut connection, statements)?;
-        return Ok((text, connection));
+        let text = ran(alloc, &mut connection, statements);
+        return (text, connection);
     }
     match SqlKeeper::over(alloc, connection) {
         Ok(mut keeper) => {
-            let text = task.done(alloc, &mut keeper)?;
-            Ok((text, keeper.close()))
+            let text = task.done(alloc, &mut keeper);
+            (text, keeper.close())
         }
-        Err((refusal, connection)) => Ok((refusal_text(alloc, refusal)?, connection)),
+        Err((refusal, connection)) => (refusal_text(alloc, refusal), connection),
     }
 }
 
 fn ran<S: Alter>(alloc: Global, connection: &mut Connection<S>, statements: &str) -> Tried<String> {
-    let text = match connection.execute_batch(statements) {
-        Ok(()) => "ran",
-        Err(_) => "not run",
-    };
-    Ok(String::from_str(alloc, text)?)
+    let is_run = connection.execute_batch(statements).is_ok();
+    owned(alloc, if is_run { "ran" } else { "not run" })
 }

@@ -1,5 +1,6 @@
 // What is printed of an answer.
 use std::alloc::Global;
+use std::str::from_utf8;
 use vk_cases::{Tried, Unreplayed};
 use vk_house::HouseErr;
 use vk_io::OutsideErr;
@@ -8,6 +9,19 @@ use vk_keeper::{Auction, Phase};
 use vk_keeper_sql::OpenErr;
 use vk_reply::{Challenge, push_bits};
 use vk_vickrey::Sale;
+
+/// The text, owned.
+pub fn owned(alloc: Global, text: &str) -> Tried<String> {
+    Ok(String::from_str(alloc, text)?)
+}
+
+/// The bytes as text, which is compared at less cost to the prover than bytes are.
+pub fn text_in(bytes: &[u8]) -> Tried<&str> {
+    match from_utf8(bytes) {
+        Ok(text) => Ok(text),
+        Err(_) => Err(Unreplayed::NoCase),
+    }
+}
 
 /// Why a store was not opened.
 pub fn refusal_text(alloc: Global, refusal: OpenErr) -> Tried<String> {
@@ -91,5 +105,8 @@ fn phase_text(alloc: Global, phase: &Phase) -> Tried<String> {
 fn challenge_text(alloc: Global, challenge: &Challenge) -> Tried<String> {
     let mut bits = Vec::new(alloc);
     push_bits(&mut bits, challenge.bits.as_slice())?;
-    String::from_utf8(bits).map_err(|_refused| Unreplayed::NoCase)
+    match String::from_utf8(bits) {
+        Ok(text) => Ok(text),
+        Err(_refused) => Err(Unreplayed::NoCase),
+    }
 }

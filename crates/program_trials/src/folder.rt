@@ -1,0 +1,112 @@
+// The program over the folder that it runs in, whose house is one file.
+use crate::making::make;
+use crate::running::{ended, status_of};
+use crate::seeing::see;
+use crate::steps::{Stage, behind_word, push, text_at, text_in};
+use std::fs;
+use std::rt::Files;
+use vk_cases::{Tried, Unreplayed, behind, words_of};
+use vk_files::{FileShelf, OutSink};
+use vk_lines::push_decimal;
+use vk_program::{HousePlace, STORE, StoreHouse};
+
+/// What the commands of a trial leave in the folder.
+const LEFT: [&str; 14] = [
+    "house.sqlite",
+    "house.sqlite-wal",
+    "house.sqlite-shm",
+    "house.sqlite-journal",
+    "first",
+    "other",
+    "secret",
+    "seal",
+    "board",
+    "reply",
+    "none",
+    "script",
+    "link",
+    "elsewhere",
+];
+
+/// The folder that the program runs in.
+#[derive(Drop)]
+pub struct Folder<'a> {
+    pub rt: &'a HostRuntime,
+}
+
+/// With which status the program of these words ends over that house and the files that `rt`
+/// reaches. It is generic since a shelf over those of the system is dearer to drop.
+fn status_over<R: Eprint + Print + AllocGlobal + Files, H: HousePlace>(
+    rt: &R,
+    words: &[String],
+    house: H,
+) -> u64 {
+    let mut shelf = FileShelf::new(rt, rt.alloc(), STORE);
+    let mut out = OutSink::new(rt);
+    let (code, _house) = ended(rt, words, house, &mut shelf, &mut out);
+    status_of(code)
+}
+
+impl Folder<'_> {
+    /// Takes away what a trial left.
+    pub fn clear(&self) {
+        for name in LEFT {
+            let _ = fs::remove_file(self.rt, name);
+        }
+        let _ = fs::remove_dir(self.rt, "there");
+    }
+
+    /// Runs the program of a step's words, and tells with which status it ends.
+    fn run(&self, words: &[u8], told: &mut Vec<u8>) -> Tried<()> {
+        let words = words_of(self.rt.alloc(), words)?;
+        let status = status_over(self.rt, words.as_slice(), StoreHouse::of(self.rt));
+        Ok(push_decimal(told, status)?)
+    }
+
+    /// Runs it while another keeper has the house open, which is closed then.
+    fn run_beside<H: HousePlace>(
+        &self,
+        house: &mut H,
+        words: &[u8],
+        told: &mut Vec<u8>,
+    ) -> Tried<()> {
+        let Ok(keeper) = house.open() else {
+            return Err(Unreplayed::Outside);
+        };
+        let run = self.run(words, told);
+        if house.close(keeper).is_err() {
+            return Err(Unreplayed::Outside);
+        }
+        run
+    }
+}
+
+impl Stage for Folder<'_> {
+    fn begin(&mut self) {
+        self.clear();
+    }
+
+    /// - `run WORD ..`: the program of these words, and its status, behind what it prints.
+    /// - `beside WORD ..`: the same, while another keeper has the house open.
+    /// - `see NAME`: the mode and the length of what has that name, by a link too.
+    /// - What is made or taken away: see [`make`].
+    fn take(&mut self, word: &str, step: &[u8], told: &mut Vec<u8>) -> Tried<()> {
+        match word {
+            "run" => self.run(behind_word(step, word), told),
+            "beside" => {
+                let mut house = StoreHouse::of(self.rt);
+                let run = self.run_beside(&mut house, behind_word(step, word), told);
+                run
+            }
+            "see" => see(self.rt, text_at(step, 1)?, told),
+            _ => {
+                let name = text_at(step, 1)?;
+                let rest = behind(behind_word(step, word), name.len().saturating_add(1));
+                match make(self.rt, word, name, text_in(rest)?) {
+                    Ok(()) => push(told, "made"),
+                    Err(_) => Err(Unreplayed::Outside),
+                }
+            }
+        }
+    }
+}
