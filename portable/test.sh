@@ -11,13 +11,14 @@
 #   hostile   checks/hostile.py where each call of the system fails, is interrupted or moves little,
 #             is a kill; full disks and outputs, odd names, places that can't be written; then the
 #             kills again, with the built program going on behind. Of each table it tries a sample,
-#             or with QUICK= all of it
+#             or with QUICK= all of it, by WORKERS (2) at a time. Runs are forks of one process of
+#             node (trials/forks.js), but those that get signals
 #   kills     a kill at every call of the first opening of a store, and of `submit`, `prove` and
 #             `answer`, behind which the built program goes on
 #   refused   what is refused: no helper for a lock, a damaged module, another system
 # Where none is named, all of them. The status is 0 where nothing fails.
 set -u
-[ $# -ge 2 ] || { sed -n '2,18s/^# //p' "$0"; exit 2; }
+[ $# -ge 2 ] || { sed -n '2,19s/^# //p' "$0"; exit 2; }
 here=$(realpath "$(dirname "$0")")
 top=$(dirname "$here")
 program=$(realpath "$1")
@@ -26,7 +27,7 @@ shift 2
 [ $# -gt 0 ] || set -- calls vectors program turns two helpers hostile kills refused
 node=$(command -v node)
 work=$(mktemp -d)
-trap 'rm -rf "$work"' EXIT
+trap 'kill ${server-} 2>/dev/null; rm -rf "$work"' EXIT
 chmod 755 "$work"
 failed=0
 
@@ -107,30 +108,56 @@ helpers() {
   done
 }
 
-# launcher NAME OTHER: the program on node whose calls fail as the settings say; where there are no
-# such settings, the program OTHER. It is linked statically, so that nothing is loaded before it
+# forks: a process of node that has the module loaded, and makes each run in a fork of its own
+# (trials/forks.js), at $work/socket; where node's headers are, and else each run starts node
+forks() {
+  local headers
+  headers=$(dirname "$(dirname "$(realpath "$node")")")/include/node
+  [ -z "${server-}" ] && [ -f "$headers/node_api.h" ] || return 0
+  gcc -shared -fPIC -O1 -I "$headers" "$here/trials/forks.c" -o "$work/forks.node" || return 0
+  env -i "$node" --single-threaded --v8-pool-size=0 "$here/trials/forks.js" "$work/forks.node" \
+    "$work/socket" &
+  server=$!
+  until [ -S "$work/socket" ]; do
+    sleep 0.1
+    kill -0 $server || return 0
+  done
+}
+
+# launcher NAME OTHER IN_FORKS: the program on node whose calls fail as the settings say; where there
+# are no such settings, the program OTHER, or where IN_FORKS is 1 the one on node in a fork. It is
+# linked statically, so that nothing is loaded before it
 launcher() {
+  forks
   gcc -static -O1 "-DNODE=\"$node\"" "-DSCRIPT=\"$here/trials/faults.js\"" "-DOTHER=\"$2\"" \
+    "-DIN_FORKS=$3" "-DSOCKET=\"$work/socket\"" "-DDISKS=\"$(readlink /proc/self/ns/mnt)\"" \
     "$here/trials/launch.c" -o "$work/$1"
 }
 
-hostile() {
-  local table quick=()
+# attack WHAT PROGRAM WORD..: checks/hostile.py, of a sample where QUICK isn't empty, by WORKERS
+attack() {
+  local what=$1 program=$2 quick=()
+  shift 2
   [ "${QUICK-yes}" != yes ] || quick=(--quick)
-  launcher faulty "$work/portable"
-  for table in calls interrupted killed disk output places spellings; do
-    note "hostile: $table" python3 "$top/checks/hostile.py" "$work/faulty" "${quick[@]}" \
-      --no-closed --only $table
+  note "$what" python3 "$top/checks/hostile.py" "$program" --workers "${WORKERS:-2}" "${quick[@]}" "$@"
+}
+
+hostile() {
+  local table
+  launcher faulty "$work/portable" 1
+  launcher signalled "$work/portable" 0
+  for table in calls interrupted disk output places spellings; do
+    attack "hostile: $table" "$work/faulty" --no-closed --only $table
   done
-  launcher before-program "$program"
-  note 'hostile: killed, and then the built program' python3 "$top/checks/hostile.py" \
-    "$work/before-program" "${quick[@]}" --only killed
+  # Signals go to the process that was started, which has to be node's own
+  attack 'hostile: killed' "$work/signalled" --no-closed --only killed
+  launcher before-program "$program" 0
+  attack 'hostile: killed, and then the built program' "$work/before-program" --only killed
 }
 
 kills() {
-  launcher killed "$program"
-  note 'killed at every call' python3 "$top/checks/hostile.py" "$work/killed" --only killed \
-    --of announce,submit,prove,answer
+  launcher killed "$program" 0
+  QUICK='' attack 'killed at every call' "$work/killed" --only killed --of announce,submit,prove,answer
 }
 
 # refusal STATUS TEXT COMMAND..: it ends so and says the text, and leaves no file but those of a store
