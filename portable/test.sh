@@ -2,8 +2,9 @@
 # portable/test.sh PROGRAM VECTORS [PART..]: tries the program on node, portable/vickrey.js, beside
 # the built program. It wants Linux, root, the kit, gcc, node, python3 and sqlite3. The parts:
 #   calls     each call of the system beside the system's own (trials/calls.sh)
-#   vectors   the cases of all folders of VECTORS, with their runner `run-cases`; those of files of
-#             version 0, which neither program reads, end as they do with the built program
+#   vectors   the cases of all folders of VECTORS, or of FOLDERS alone, with their runner `run-cases`;
+#             those of files of version 0, which neither program reads, end as they do with the
+#             built program; those of hostile files run in forks, as in the part `hostile`
 #   program   checks/program.sh, checks/house.sh, and KILLS (20) kills a kind of checks/kill.py
 #   turns     checks/house.sh and the cases of a house, by the built program and node in turns
 #   two       two processes on one store (trials/two.py)
@@ -18,7 +19,7 @@
 #   refused   what is refused: no helper for a lock, a damaged module, another system
 # Where none is named, all of them. The status is 0 where nothing fails.
 set -u
-[ $# -ge 2 ] || { sed -n '2,19s/^# //p' "$0"; exit 2; }
+[ $# -ge 2 ] || { sed -n '2,20s/^# //p' "$0"; exit 2; }
 here=$(realpath "$(dirname "$0")")
 top=$(dirname "$here")
 program=$(realpath "$1")
@@ -74,12 +75,17 @@ vectors() {
   local folder
   for folder in "$vectors"/*/cases; do
     folder=$(basename "$(dirname "$folder")")
-    # Most of its files are of version 0, which neither program reads
-    if [ "$folder" = first-path ]; then
-      note "cases of $folder, as the built program" as_program "$folder"
-    else
-      cases "$work/portable" "$folder"
-    fi
+    [[ " ${FOLDERS:-$folder} " == *" $folder "* ]] || continue
+    case $folder in
+      # Most of its files are of version 0, which neither program reads
+      first-path) note "cases of $folder, as the built program" as_program "$folder" ;;
+      # More than a thousand
+      hostile)
+        launcher in-forks "$work/portable" 1
+        cases "$work/in-forks" "$folder"
+        ;;
+      *) cases "$work/portable" "$folder" ;;
+    esac
   done
 }
 

@@ -5,6 +5,7 @@
 #define _GNU_SOURCE
 #include <grp.h>
 #include <node_api.h>
+#include <poll.h>
 #include <signal.h>
 #include <stdio.h>
 #include <stdlib.h>
@@ -13,6 +14,7 @@
 #include <sys/resource.h>
 #include <sys/socket.h>
 #include <sys/stat.h>
+#include <sys/syscall.h>
 #include <sys/un.h>
 #include <sys/wait.h>
 #include <unistd.h>
@@ -47,9 +49,13 @@ static int take_place(const int files[FILES]) {
          !setuid(asked.user);
 }
 
-/* Waits for the child, and tells how it ended. A child is killed where who asks has gone. */
+/* Waits for the child, and tells how it ended. It is killed where who asked for it is gone. */
 static void wait_for(pid_t child, int connection) {
   int status;
+  struct pollfd ends[] = {{.fd = connection},
+                          {.fd = syscall(SYS_pidfd_open, child, 0), .events = POLLIN}};
+  while (poll(ends, 2, -1) < 0) continue;
+  if (ends[0].revents) kill(child, SIGKILL);
   waitpid(child, &status, 0);
   send(connection, &status, sizeof status, MSG_NOSIGNAL);
   _exit(0);
