@@ -12,8 +12,8 @@
 #   hostile   checks/hostile.py where each call of the system fails, is interrupted or moves little,
 #             is a kill; full disks and outputs, odd names, places that can't be written; then the
 #             kills again, with the built program going on behind. Of each table it tries a sample,
-#             or with QUICK= all of it, by WORKERS (2) at a time. Runs are forks of one process of
-#             node (trials/forks.js), but those that get signals
+#             or with QUICK= all of it, by WORKERS (2) at a time; TABLES are those but the kills.
+#             Runs are forks of one process of node (trials/forks.js), but those that get signals
 #   kills     a kill at every call of the first opening of a store, and of `submit`, `prove` and
 #             `answer`, behind which the built program goes on
 #   refused   what is refused: no helper for a lock, a damaged module, another system
@@ -121,8 +121,8 @@ forks() {
   headers=$(dirname "$(dirname "$(realpath "$node")")")/include/node
   [ -z "${server-}" ] && [ -f "$headers/node_api.h" ] || return 0
   gcc -shared -fPIC -O1 -I "$headers" "$here/trials/forks.c" -o "$work/forks.node" || return 0
-  env -i "$node" --single-threaded --v8-pool-size=0 "$here/trials/forks.js" "$work/forks.node" \
-    "$work/socket" &
+  env -i "LD_PRELOAD=$work/forks.node" "$node" --single-threaded "$here/trials/forks.js" \
+    "$work/forks.node" "$work/socket" &
   server=$!
   until [ -S "$work/socket" ]; do
     sleep 0.1
@@ -152,7 +152,7 @@ hostile() {
   local table
   launcher faulty "$work/portable" 1
   launcher signalled "$work/portable" 0
-  for table in calls interrupted disk output places spellings; do
+  for table in ${TABLES:-calls interrupted disk output places spellings}; do
     attack "hostile: $table" "$work/faulty" --no-closed --only $table
   done
   # Signals go to the process that was started, which has to be node's own

@@ -3,9 +3,11 @@
  * the folder, with the words, the settings, the standard streams, the user, the umask and the limit
  * of files of who asks. So a run is a process of its own, that can be killed, without a start of node. */
 #define _GNU_SOURCE
+#include <dlfcn.h>
 #include <grp.h>
 #include <node_api.h>
 #include <poll.h>
+#include <pthread.h>
 #include <signal.h>
 #include <stdio.h>
 #include <stdlib.h>
@@ -22,6 +24,17 @@
 
 static struct asked asked;
 static char texts[MOST];
+static int is_fork;
+
+/* It stands before the C library's. node's threads, which wait for such signals, are in no fork; but
+ * what waits is noted in the condition itself, and a second signal would wait until the first was
+ * seen. What a thread was asked to do, whoever asks does itself. */
+int pthread_cond_signal(pthread_cond_t *condition) {
+  static int (*its)(pthread_cond_t *);
+  if (!its) its = dlvsym(RTLD_NEXT, "pthread_cond_signal", "GLIBC_2.3.2"); /* on x86-64, not the first */
+  if (!its) its = dlsym(RTLD_NEXT, "pthread_cond_signal");
+  return is_fork ? 0 : its(condition);
+}
 
 /* What is asked for on this connection: false where nothing comes. */
 static int receive(int connection, int files[FILES]) {
@@ -85,6 +98,7 @@ static void wait_at(int server) {
       if (child != 0) wait_for(child, connection);
       if (!receive(connection, files) || !take_place(files)) _exit(126);
       close(connection);
+      is_fork = 1;
       return;
     }
     close(connection);

@@ -1,7 +1,7 @@
 #!/usr/bin/env node
 // portable/trials/forks.js ADDON SOCKET: makes the runs that launch.c asks for at SOCKET, each in a
-// fork of this process, which has node and the module loaded. It is to be started without threads
-// (--single-threaded --v8-pool-size=0), since a fork has none, and with an empty environment.
+// fork of this process, which has node and the module loaded. It is to be started with --single-threaded,
+// since a fork has no threads, and with nothing in the environment but ADDON as LD_PRELOAD.
 "use strict";
 
 const fs = require("fs");
@@ -10,6 +10,8 @@ const { moduleHere, run } = require("../vickrey.js");
 const { serve, end } = require(process.argv[2]);
 
 const STOPPED = 70;
+
+delete process.env.LD_PRELOAD;
 
 const say = (line) => fs.writeSync(2, `${line}\n`);
 
