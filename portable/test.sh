@@ -12,14 +12,15 @@
 #   hostile   checks/hostile.py where each call of the system fails, is interrupted or moves little,
 #             is a kill; full disks and outputs, odd names, places that can't be written; then the
 #             kills again, with the built program going on behind. Of each table it tries a sample,
-#             or with QUICK= all of it, by WORKERS (2) at a time; TABLES are those but the kills.
-#             Runs are forks of one process of node (trials/forks.js), but those that get signals
+#             or with QUICK= all of it, by WORKERS (2) at a time; of TABLES alone where these are
+#             set. Runs are forks of one process of node (trials/forks.js), where its headers are
+#             there, but those that get signals
 #   kills     a kill at every call of the first opening of a store, and of `submit`, `prove` and
 #             `answer`, behind which the built program goes on
 #   refused   what is refused: no helper for a lock, a damaged module, another system
 # Where none is named, all of them. The status is 0 where nothing fails.
 set -u
-[ $# -ge 2 ] || { sed -n '2,20s/^# //p' "$0"; exit 2; }
+[ $# -ge 2 ] || { sed -n '2,21s/^# //p' "$0"; exit 2; }
 here=$(realpath "$(dirname "$0")")
 top=$(dirname "$here")
 program=$(realpath "$1")
@@ -151,14 +152,17 @@ attack() {
 hostile() {
   local table
   launcher faulty "$work/portable" 1
+  # A signal goes to the process that was started, which has to be node's own
   launcher signalled "$work/portable" 0
-  for table in ${TABLES:-calls interrupted disk output places spellings}; do
-    attack "hostile: $table" "$work/faulty" --no-closed --only $table
-  done
-  # Signals go to the process that was started, which has to be node's own
-  attack 'hostile: killed' "$work/signalled" --no-closed --only killed
   launcher before-program "$program" 0
-  attack 'hostile: killed, and then the built program' "$work/before-program" --only killed
+  for table in ${TABLES:-calls interrupted killed disk output places spellings}; do
+    if [ "$table" != killed ]; then
+      attack "hostile: $table" "$work/faulty" --no-closed --only "$table"
+    else
+      attack 'hostile: killed' "$work/signalled" --no-closed --only killed
+      attack 'hostile: killed, and then the built program' "$work/before-program" --only killed
+    fi
+  done
 }
 
 kills() {

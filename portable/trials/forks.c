@@ -1,7 +1,8 @@
 /* portable/trials/forks.c: of node, an addon for forks.js. A process of node that has all loaded waits
  * at a socket; for each run that launch.c asks for there, it forks, and the child runs the program in
- * the folder, with the words, the settings, the standard streams, the user, the umask and the limit
- * of files of who asks. So a run is a process of its own, that can be killed, without a start of node. */
+ * the folder, with the words, the settings, the standard streams, the user, the umask and the limits
+ * of who asks on how long files are and how many are open. So a run is a process of its own, that can
+ * be killed, without a start of node. */
 #define _GNU_SOURCE
 #include <dlfcn.h>
 #include <grp.h>
@@ -52,13 +53,13 @@ static int receive(int connection, int files[FILES]) {
 
 /* Takes the place of who asks. */
 static int take_place(const int files[FILES]) {
-  for (int at = 0; at < 3; at++)
+  for (int at = 0; at < FILES; at++) {
     if (dup2(files[at], at) < 0) return 0;
-  if (fchdir(files[3])) return 0;
-  for (int at = 0; at < FILES; at++)
-    if (files[at] > 2) close(files[at]);
+    close(files[at]);
+  }
   umask(asked.mask);
-  return !setrlimit(RLIMIT_FSIZE, &asked.size) && !setgroups(0, NULL) && !setgid(asked.group) &&
+  return !chdir(texts) && !setrlimit(RLIMIT_FSIZE, &asked.size) &&
+         !setrlimit(RLIMIT_NOFILE, &asked.open) && !setgroups(0, NULL) && !setgid(asked.group) &&
          !setuid(asked.user);
 }
 
@@ -121,7 +122,7 @@ static napi_value serve(napi_env env, napi_callback_info info) {
   }
   wait_at(server);
   napi_create_array(env, &all);
-  char *at = texts;
+  char *at = texts + strlen(texts) + 1;
   for (unsigned number = 0; number < asked.words + asked.settings; number++) {
     napi_create_buffer_copy(env, strlen(at), at, NULL, &text);
     napi_set_element(env, all, number, text);

@@ -1,14 +1,14 @@
-/* portable/trials/forks.h: what launch.c asks forks.c for: behind this stand the words and then the
- * settings, each ended by a zero byte; with it go the standard streams and the folder. */
+/* portable/trials/forks.h: what launch.c asks forks.c for: behind this stand the folder, the words, and
+ * then the settings, each ended by a zero byte; with it go the standard streams. */
 #include <sys/resource.h>
 #include <sys/types.h>
 
-enum { FILES = 4, MOST = 100000 };
+enum { FILES = 3, MOST = 100000 };
 
 struct asked {
   unsigned words, settings;
   mode_t mask;
   uid_t user;
   gid_t group;
-  struct rlimit size;
+  struct rlimit size, open;
 };

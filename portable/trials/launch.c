@@ -4,7 +4,6 @@
  * no such settings, only if IN_FORKS is 1, since a signal to this process doesn't reach a fork. What was to be loaded in front of the C library goes: it would
  * stand before node too. Linked statically, this takes no such thing itself. */
 #define _GNU_SOURCE
-#include <fcntl.h>
 #include <signal.h>
 #include <stdlib.h>
 #include <string.h>
@@ -33,8 +32,8 @@ static int put(char **more) {
 }
 
 static int has_sent(int server, char **words) {
-  char control[CMSG_SPACE(FILES * sizeof(int))] = {0};
-  int files[FILES] = {0, 1, 2, open(".", O_PATH | O_CLOEXEC)};
+  char control[CMSG_SPACE(FILES * sizeof(int))] = {0}, here[1000], *folder[] = {here, NULL};
+  int files[FILES] = {0, 1, 2}, has_room = getcwd(here, sizeof here) && put(folder) == 1;
   int count = put(words), settings = put(environ);
   struct asked asked = {.words = count, .settings = settings, .mask = umask(0), .user = getuid(),
                         .group = getgid()};
@@ -44,10 +43,11 @@ static int has_sent(int server, char **words) {
   struct cmsghdr *head = CMSG_FIRSTHDR(&message);
   umask(asked.mask);
   getrlimit(RLIMIT_FSIZE, &asked.size);
+  getrlimit(RLIMIT_NOFILE, &asked.open);
   *head = (struct cmsghdr){.cmsg_level = SOL_SOCKET, .cmsg_type = SCM_RIGHTS,
                            .cmsg_len = CMSG_LEN(sizeof files)};
   memcpy(CMSG_DATA(head), files, sizeof files);
-  return count >= 0 && settings >= 0 && files[3] >= 0 && sendmsg(server, &message, MSG_NOSIGNAL) > 0;
+  return has_room && count > 0 && settings >= 0 && sendmsg(server, &message, MSG_NOSIGNAL) > 0;
 }
 
 /* Whether it sees the same disks as the process that waits: a folder's path leads elsewhere if not. */
@@ -60,7 +60,11 @@ static int is_beside(void) {
 static void in_fork(char **words) {
   struct sockaddr_un place = {.sun_family = AF_UNIX, .sun_path = SOCKET};
   int status, server = socket(AF_UNIX, SOCK_SEQPACKET | SOCK_CLOEXEC, 0);
-  if (!is_beside() || connect(server, (struct sockaddr *)&place, sizeof place) || !has_sent(server, words)) return;
+  if (!is_beside() || connect(server, (struct sockaddr *)&place, sizeof place) ||
+      !has_sent(server, words)) {
+    close(server);
+    return;
+  }
   if (recv(server, &status, sizeof status, 0) != sizeof status) _exit(126);
   if (!WIFSIGNALED(status)) _exit(WEXITSTATUS(status));
   signal(WTERMSIG(status), SIG_DFL);
