@@ -32,7 +32,7 @@ static int is_fork;
  * seen. What a thread was asked to do, whoever asks does itself. */
 int pthread_cond_signal(pthread_cond_t *condition) {
   static int (*its)(pthread_cond_t *);
-  if (!its) its = dlvsym(RTLD_NEXT, "pthread_cond_signal", "GLIBC_2.3.2"); /* on x86-64, not the first */
+  if (!its) its = dlvsym(RTLD_NEXT, "pthread_cond_signal", "GLIBC_2.3.2"); /* the later, on x86-64 */
   if (!its) its = dlsym(RTLD_NEXT, "pthread_cond_signal");
   return is_fork ? 0 : its(condition);
 }
@@ -80,7 +80,7 @@ static void keep_memory(void) {
   unsigned long start, end;
   FILE *maps = fopen("/proc/self/maps", "r");
   while (maps && fscanf(maps, "%lx-%lx%*[^\n]", &start, &end) == 2)
-    madvise((void *)start, end - start, MADV_DOFORK); /* what it can't be said of has no such mark */
+    madvise((void *)start, end - start, MADV_DOFORK); /* what refuses it has no such mark */
   if (maps) fclose(maps);
 }
 

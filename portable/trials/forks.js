@@ -1,7 +1,8 @@
 #!/usr/bin/env node
 // portable/trials/forks.js ADDON SOCKET: makes the runs that launch.c asks for at SOCKET, each in a
-// fork of this process, which has node and the module loaded. It is to be started with --single-threaded,
-// since a fork has no threads, and with nothing in the environment but ADDON as LD_PRELOAD.
+// fork of this process, which has node and the module loaded. It is to be started with the word
+// --single-threaded, since a fork has no threads, and nothing in the environment but ADDON as
+// LD_PRELOAD.
 "use strict";
 
 const fs = require("fs");
@@ -26,7 +27,8 @@ function hostOf(words, settings) {
 }
 
 function statusOf(module, asked) {
-  Object.defineProperty(process, "pid", { value: asked.process }); // node knows that of the start alone
+  // node asked for it as it started
+  Object.defineProperty(process, "pid", { value: asked.process });
   try {
     return run(module, hostOf(asked.slice(0, asked.words), asked.slice(asked.words)));
   } catch (error) {
