@@ -2,9 +2,9 @@
 # portable/test.sh PROGRAM VECTORS [PART..]: tries the program on node, portable/vickrey.js, beside
 # the built program. It wants Linux, root, the kit, gcc, node, python3 and sqlite3. The parts:
 #   calls     each call of the system beside the system's own (trials/calls.sh)
-#   vectors   the cases of all folders of VECTORS, or of FOLDERS alone, with their runner `run-cases`;
-#             those of files of version 0, which neither program reads, end as they do with the
-#             built program; those of hostile files run in forks, as in the part `hostile`
+#   vectors   the cases of all folders of VECTORS, or of FOLDERS alone, with their runner
+#             `run-cases`; those of files of version 0, which neither program reads, end as they do
+#             with the built program; those of hostile files run in forks, as in the part `hostile`
 #   program   checks/program.sh, checks/house.sh, and KILLS (20) kills a kind of checks/kill.py
 #   turns     checks/house.sh and the cases of a house, by the built program and node in turns
 #   two       two processes on one store (trials/two.py)
@@ -131,9 +131,9 @@ forks() {
   done
 }
 
-# launcher NAME OTHER IN_FORKS: the program on node whose calls fail as the settings say; where there
-# are no such settings, the program OTHER, or where IN_FORKS is 1 the one on node in a fork. It is
-# linked statically, so that nothing is loaded before it
+# launcher NAME OTHER IN_FORKS: the program on node whose calls fail as the settings say; where
+# there are no such settings, the program OTHER, or where IN_FORKS is 1 the one on node in a fork.
+# It is linked statically, so that nothing is loaded before it
 launcher() {
   forks
   gcc -static -O1 "-DNODE=\"$node\"" "-DSCRIPT=\"$here/trials/faults.js\"" "-DOTHER=\"$2\"" \
@@ -143,10 +143,10 @@ launcher() {
 
 # attack WHAT PROGRAM WORD..: checks/hostile.py, of a sample where QUICK isn't empty, by WORKERS
 attack() {
-  local what=$1 program=$2 quick=()
+  local what=$1 program=$2 settings=(--workers "${WORKERS:-2}")
   shift 2
-  [ "${QUICK-yes}" != yes ] || quick=(--quick)
-  note "$what" python3 "$top/checks/hostile.py" "$program" --workers "${WORKERS:-2}" "${quick[@]}" "$@"
+  [ "${QUICK-yes}" != yes ] || settings+=(--quick)
+  note "$what" python3 "$top/checks/hostile.py" "$program" "${settings[@]}" "$@"
 }
 
 hostile() {
@@ -167,7 +167,8 @@ hostile() {
 
 kills() {
   launcher killed "$program" 0
-  QUICK='' attack 'killed at every call' "$work/killed" --only killed --of announce,submit,prove,answer
+  QUICK='' attack 'killed at every call' "$work/killed" --only killed \
+    --of announce,submit,prove,answer
 }
 
 # refusal STATUS TEXT COMMAND..: it ends so and says the text, and leaves no file but those of a store

@@ -1,8 +1,8 @@
-/* portable/trials/forks.c: of node, an addon for forks.js. A process of node that has all loaded waits
- * at a socket; for each run that launch.c asks for there, it forks, and the child runs the program in
- * the folder, with the words, the settings, the standard streams, the user, the umask and the limits
- * of who asks on how long files are and how many are open. So a run is a process of its own, that can
- * be killed, without a start of node. */
+/* portable/trials/forks.c: of node, an addon for forks.js. A process of node that has all loaded
+ * waits at a socket; for each run that launch.c asks for there, it forks, and the child runs the
+ * program in the folder, with the words, the settings, the standard streams, the user, the umask
+ * and the limits of who asks on how long files are and how many are open. So a run is a process of
+ * its own, that can be killed, without a start of node. */
 #define _GNU_SOURCE
 #include <dlfcn.h>
 #include <grp.h>
@@ -27,9 +27,9 @@ static struct asked asked;
 static char texts[MOST];
 static int is_fork;
 
-/* It stands before the C library's. node's threads, which wait for such signals, are in no fork; but
- * what waits is noted in the condition itself, and a second signal would wait until the first was
- * seen. What a thread was asked to do, whoever asks does itself. */
+/* It stands before the C library's. node's threads, which wait for such signals, are in no fork;
+ * but what waits is noted in the condition itself, and a second signal would wait until the first
+ * was seen. What a thread was asked to do, whoever asks does itself. */
 int pthread_cond_signal(pthread_cond_t *condition) {
   static int (*its)(pthread_cond_t *);
   if (!its) its = dlvsym(RTLD_NEXT, "pthread_cond_signal", "GLIBC_2.3.2"); /* the later, on x86-64 */
@@ -106,8 +106,8 @@ static void wait_at(int server) {
   }
 }
 
-/* serve(PATH): the words and settings of a run, as buffers, first the words; how many these are; and
- * the number of the process. */
+/* serve(PATH): the words and settings of a run, as buffers, first the words; how many these are;
+ * and the number of the process. */
 static napi_value serve(napi_env env, napi_callback_info info) {
   struct sockaddr_un place = {.sun_family = AF_UNIX};
   size_t count = 1, length;

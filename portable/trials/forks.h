@@ -1,5 +1,5 @@
-/* portable/trials/forks.h: what launch.c asks forks.c for: behind this stand the folder, the words and
- * the settings, each ended by a zero byte; with it go the standard streams. */
+/* portable/trials/forks.h: what launch.c asks forks.c for: behind this stand the folder, the words
+ * and the settings, each ended by a zero byte; with it go the standard streams. */
 #include <sys/resource.h>
 #include <sys/types.h>
 

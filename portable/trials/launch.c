@@ -1,9 +1,9 @@
-/* portable/trials/launch.c: starts NODE SCRIPT with its own words where the environment has settings
- * of faults (faults.js), and the program OTHER where it has none. Where a process waits at SOCKET
- * (forks.js) and sees the same disks, DISKS, that one makes the run instead: of those without such
- * settings only if IN_FORKS is 1, since a signal to this process doesn't reach a fork. What was to be
- * loaded in front of the C library goes: it would stand before node too. Linked statically, this
- * takes no such thing itself. */
+/* portable/trials/launch.c: starts NODE SCRIPT with its own words where the environment has
+ * settings of faults (faults.js), and the program OTHER where it has none. Where a process waits
+ * at SOCKET (forks.js) and sees the same disks, DISKS, that one makes the run instead: of those
+ * without such settings only if IN_FORKS is 1, since a signal to this process doesn't reach a
+ * fork. What was to be loaded in front of the C library goes: it would stand before node too.
+ * Linked statically, this takes no such thing itself. */
 #define _GNU_SOURCE
 #include <signal.h>
 #include <stdlib.h>
@@ -20,7 +20,8 @@ extern char **environ;
 static char texts[MOST];
 static size_t used;
 
-/* Puts the texts behind those that are there, and answers how many, or -1 where they have no room. */
+/* Puts the texts behind those that are there, and answers how many, or -1 where they have no room.
+ * */
 static int put(char **more) {
   int count = 0;
   for (; more[count]; count++) {
@@ -51,7 +52,8 @@ static int has_sent(int server, char **words) {
   return has_room && count > 0 && settings >= 0 && sendmsg(server, &message, MSG_NOSIGNAL) > 0;
 }
 
-/* Whether it sees the same disks as the process that waits: if not, a path leads elsewhere there. */
+/* Whether it sees the same disks as the process that waits: if not, a path leads elsewhere there.
+ * */
 static int is_beside(void) {
   char here[100] = {0};
   return readlink("/proc/self/ns/mnt", here, sizeof here - 1) > 0 && !strcmp(here, DISKS);
