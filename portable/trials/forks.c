@@ -32,7 +32,7 @@ static int is_fork;
  * was seen. What a thread was asked to do, whoever asks does itself. */
 int pthread_cond_signal(pthread_cond_t *condition) {
   static int (*its)(pthread_cond_t *);
-  if (!its) its = dlvsym(RTLD_NEXT, "pthread_cond_signal", "GLIBC_2.3.2"); /* the later, on x86-64 */
+  if (!its) its = dlvsym(RTLD_NEXT, "pthread_cond_signal", "GLIBC_2.3.2"); /* of two, on x86-64 */
   if (!its) its = dlsym(RTLD_NEXT, "pthread_cond_signal");
   return is_fork ? 0 : its(condition);
 }

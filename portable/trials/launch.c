@@ -20,8 +20,7 @@ extern char **environ;
 static char texts[MOST];
 static size_t used;
 
-/* Puts the texts behind those that are there, and answers how many, or -1 where they have no room.
- * */
+/* Puts the texts behind those that are there, and answers how many, or -1 without room for them. */
 static int put(char **more) {
   int count = 0;
   for (; more[count]; count++) {
@@ -52,8 +51,7 @@ static int has_sent(int server, char **words) {
   return has_room && count > 0 && settings >= 0 && sendmsg(server, &message, MSG_NOSIGNAL) > 0;
 }
 
-/* Whether it sees the same disks as the process that waits: if not, a path leads elsewhere there.
- * */
+/* Whether it sees the same disks as the process that waits: a path might lead elsewhere there. */
 static int is_beside(void) {
   char here[100] = {0};
   return readlink("/proc/self/ns/mnt", here, sizeof here - 1) > 0 && !strcmp(here, DISKS);
