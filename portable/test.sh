@@ -116,12 +116,16 @@ helpers() {
 }
 
 # forks: a process of node that has the module loaded, and makes each run in a fork of its own
-# (trials/forks.js), at $work/socket; where node's headers are, and else each run starts node
+# (trials/forks.js), at $work/socket. Where node's headers aren't there, each run starts node
 forks() {
   local headers
+  [ -z "${server-}" ] || return 0
+  server=none
   headers=$(dirname "$(dirname "$(realpath "$node")")")/include/node
-  [ -z "${server-}" ] && [ -f "$headers/node_api.h" ] || return 0
-  gcc -shared -fPIC -O1 -I "$headers" "$here/trials/forks.c" -o "$work/forks.node" || return 0
+  if ! gcc -shared -fPIC -O1 -I "$headers" "$here/trials/forks.c" -o "$work/forks.node"; then
+    echo "each run starts node: there is no addon by $headers"
+    return 0
+  fi
   env -i "LD_PRELOAD=$work/forks.node" "$node" --single-threaded "$here/trials/forks.js" \
     "$work/forks.node" "$work/socket" &
   server=$!
