@@ -44,6 +44,7 @@ END
 }
 
 folder=$(mktemp -d "${TMPDIR:-/tmp}/vickrey-auction.XXXXXX")
+trap 'rmdir "$folder" 2>/dev/null' EXIT # where nothing ran, it is empty
 choose "$@"
 cd "$folder" || exit 1
 umask 077

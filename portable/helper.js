@@ -66,17 +66,26 @@ function surroundings(file) {
 const hasTried = ({ error, signal, status }) =>
   !error && signal === null && (status < 126 || status === LOCKED_ALONE);
 
+// Why a helper didn't make the call: what the system said of its start, or how it ended.
+const reasonOf = (name, { error, signal, status }) =>
+  `${name}: ${error?.code ?? signal ?? `status ${status}`}`;
+
 // Makes the call on the open file, and answers 0, the number of an error, or LOCKED_ALONE.
 function callOn(file, words, say) {
   const { spawnSync } = require("child_process"); // which few commands want
+  const reasons = [];
   for (const [name, before] of HELPERS) {
     const ended = spawnSync(name, [...before, ...words.map(String)], surroundings(file));
     if (hasTried(ended)) {
       return ended.status;
     }
+    reasons.push(reasonOf(name, ended));
   }
   const names = HELPERS.map(([name]) => name).join(" nor ");
-  say(`vickrey: a store can't be locked here: there is neither ${names} to ask Linux for the lock`);
+  say(
+    `vickrey: a store can't be locked here: there is neither ${names} that could ask Linux for the ` +
+      `lock (${reasons.join(", ")})`,
+  );
   return NO_CALL;
 }
 

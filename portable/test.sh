@@ -2,8 +2,9 @@
 # portable/test.sh PROGRAM VECTORS [PART..]: tries the program on node, portable/vickrey.js, beside
 # the built program. It wants Linux, root, the kit, gcc, node, python3 and sqlite3. The parts:
 #   calls     each call of the system beside the system's own (trials/calls.sh)
-#   vectors   the cases of all folders of VECTORS, with their runner `run-cases`; those of files of
-#             version 0, which neither program reads, end as they do with the built program
+#   vectors   the cases of all folders of VECTORS, or of FOLDERS alone, with their runner
+#             `run-cases`; those of files of version 0, which neither program reads, end as they do
+#             with the built program; those of hostile files run in forks, as in the part `hostile`
 #   program   checks/program.sh, checks/house.sh, and KILLS (20) kills a kind of checks/kill.py
 #   turns     checks/house.sh and the cases of a house, by the built program and node in turns
 #   two       two processes on one store (trials/two.py)
@@ -11,13 +12,15 @@
 #   hostile   checks/hostile.py where each call of the system fails, is interrupted or moves little,
 #             is a kill; full disks and outputs, odd names, places that can't be written; then the
 #             kills again, with the built program going on behind. Of each table it tries a sample,
-#             or with QUICK= all of it
+#             or with QUICK= all of it, by WORKERS (2) at a time; of TABLES alone where these are
+#             set. Runs are forks of one process of node (trials/forks.js), where its headers are
+#             there, but those that get signals
 #   kills     a kill at every call of the first opening of a store, and of `submit`, `prove` and
 #             `answer`, behind which the built program goes on
 #   refused   what is refused: no helper for a lock, a damaged module, another system
 # Where none is named, all of them. The status is 0 where nothing fails.
 set -u
-[ $# -ge 2 ] || { sed -n '2,18s/^# //p' "$0"; exit 2; }
+[ $# -ge 2 ] || { sed -n '2,21s/^# //p' "$0"; exit 2; }
 here=$(realpath "$(dirname "$0")")
 top=$(dirname "$here")
 program=$(realpath "$1")
@@ -26,7 +29,7 @@ shift 2
 [ $# -gt 0 ] || set -- calls vectors program turns two helpers hostile kills refused
 node=$(command -v node)
 work=$(mktemp -d)
-trap 'rm -rf "$work"' EXIT
+trap 'kill ${server-} 2>/dev/null; rm -rf "$work"' EXIT
 chmod 755 "$work"
 failed=0
 
@@ -73,12 +76,17 @@ vectors() {
   local folder
   for folder in "$vectors"/*/cases; do
     folder=$(basename "$(dirname "$folder")")
-    # Most of its files are of version 0, which neither program reads
-    if [ "$folder" = first-path ]; then
-      note "cases of $folder, as the built program" as_program "$folder"
-    else
-      cases "$work/portable" "$folder"
-    fi
+    [[ " ${FOLDERS:-$folder} " == *" $folder "* ]] || continue
+    case $folder in
+      # Most of its files are of version 0, which neither program reads
+      first-path) note "cases of $folder, as the built program" as_program "$folder" ;;
+      # More than a thousand
+      hostile)
+        launcher in-forks "$work/portable" 1
+        cases "$work/in-forks" "$folder"
+        ;;
+      *) cases "$work/portable" "$folder" ;;
+    esac
   done
 }
 
@@ -107,29 +115,63 @@ helpers() {
   done
 }
 
-# launcher NAME OTHER: the program on node whose calls fail as the settings say; where there are no
-# such settings, the program OTHER. It is linked statically, so that nothing is loaded before it
+# forks: a process of node that has the module loaded, and makes each run in a fork of its own
+# (trials/forks.js), at $work/socket. Where node's headers aren't there, each run starts node
+forks() {
+  local headers
+  [ -z "${server-}" ] || return 0
+  server=none
+  headers=$(dirname "$(dirname "$(realpath "$node")")")/include/node
+  if ! gcc -shared -fPIC -O1 -I "$headers" "$here/trials/forks.c" -o "$work/forks.node"; then
+    echo "each run starts node: there is no addon by $headers"
+    return 0
+  fi
+  env -i "LD_PRELOAD=$work/forks.node" "$node" --single-threaded "$here/trials/forks.js" \
+    "$work/forks.node" "$work/socket" &
+  server=$!
+  until [ -S "$work/socket" ]; do
+    sleep 0.1
+    kill -0 $server || return 0
+  done
+}
+
+# launcher NAME OTHER IN_FORKS: the program on node whose calls fail as the settings say; where
+# there are no such settings, the program OTHER, or where IN_FORKS is 1 the one on node in a fork.
+# It is linked statically, so that nothing is loaded before it
 launcher() {
+  forks
   gcc -static -O1 "-DNODE=\"$node\"" "-DSCRIPT=\"$here/trials/faults.js\"" "-DOTHER=\"$2\"" \
+    "-DIN_FORKS=$3" "-DSOCKET=\"$work/socket\"" "-DDISKS=\"$(readlink /proc/self/ns/mnt)\"" \
     "$here/trials/launch.c" -o "$work/$1"
 }
 
+# attack WHAT PROGRAM WORD..: checks/hostile.py, of a sample where QUICK isn't empty, by WORKERS
+attack() {
+  local what=$1 program=$2 settings=(--workers "${WORKERS:-2}")
+  shift 2
+  [ "${QUICK-yes}" != yes ] || settings+=(--quick)
+  note "$what" python3 "$top/checks/hostile.py" "$program" "${settings[@]}" "$@"
+}
+
 hostile() {
-  local table quick=()
-  [ "${QUICK-yes}" != yes ] || quick=(--quick)
-  launcher faulty "$work/portable"
-  for table in calls interrupted killed disk output places spellings; do
-    note "hostile: $table" python3 "$top/checks/hostile.py" "$work/faulty" "${quick[@]}" \
-      --no-closed --only $table
+  local table
+  launcher faulty "$work/portable" 1
+  # A signal goes to the process that was started, which has to be node's own
+  launcher signalled "$work/portable" 0
+  launcher before-program "$program" 0
+  for table in ${TABLES:-calls interrupted killed disk output places spellings}; do
+    if [ "$table" != killed ]; then
+      attack "hostile: $table" "$work/faulty" --no-closed --only "$table"
+    else
+      attack 'hostile: killed' "$work/signalled" --no-closed --only killed
+      attack 'hostile: killed, and then the built program' "$work/before-program" --only killed
+    fi
   done
-  launcher before-program "$program"
-  note 'hostile: killed, and then the built program' python3 "$top/checks/hostile.py" \
-    "$work/before-program" "${quick[@]}" --only killed
 }
 
 kills() {
-  launcher killed "$program"
-  note 'killed at every call' python3 "$top/checks/hostile.py" "$work/killed" --only killed \
+  launcher killed "$program" 0
+  QUICK='' attack 'killed at every call' "$work/killed" --only killed \
     --of announce,submit,prove,answer
 }
 

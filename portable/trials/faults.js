@@ -103,6 +103,10 @@ class Faulty extends Host {
   }
 }
 
-const say = (line) => fs.writeSync(2, `${line}\n`);
-const words = wordsGiven();
-process.exitCode = run(moduleHere(words), new Faulty(words, say));
+if (require.main === module) {
+  const words = wordsGiven();
+  const say = (line) => fs.writeSync(2, `${line}\n`);
+  process.exitCode = run(moduleHere(words), new Faulty(words, say));
+}
+
+module.exports = { Faulty };
