@@ -110,7 +110,8 @@ def rows():
     for program, what, data_of in (("trials", "whole auctions and claims, matchings, and samples over files that stay as they are", ""),
                                    ("fault_trials", "cut files, and a fault at each call", ""),
                                    ("far_trials", "the largest files, and damage at far places", ""),
-                                   ("edge_trials", "the real files and an output, and calls to the system that go wrong", trials("edge_trials", "steps")),
+                                   ("edge_trials", "the real files and an output, and calls to the system that go wrong",
+                                    trials("edge_trials", "steps")),
                                    ("program_trials", "the program over a store in real files, and over a house, files and errors in memory",
                                     trials("program_trials", "memory", "folder")),
                                    ("size_trials", "every command at every size", sizes("size_trials"))):
