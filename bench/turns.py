@@ -7,11 +7,12 @@ It prints, for each command and program, the least and the median of the seconds
 (user and system), and how many times the first program's they are.
 
 The commands are those of a house of 64 seals with 64 lanes at width 40, over a real file (the
-`submit` of the last seal, `prove`, `answer`, `show`), `verify` of its board, and `verify`,
-`extract` and `sample 1` of the board of `sample 1`. Each program has a folder of its own below
-FOLDER, a new one where none is given, and makes its files itself; the store is put back as it was
-before each run, and that isn't timed. Texts are compared with those of the first program. It takes
-1 GB for each program, and minutes.
+`submit` of the last seal, `prove`, `answer`, `show`), `verify` of its board, `verify`, `extract`
+and `sample 1` of the board of `sample 1`, and `claim-verify` of claims of 64 bids in 8 lanes with 8
+winners, and of 16 men and 16 women in 16, which make_board.py makes. Each program has a folder of
+its own below FOLDER, a new one where none is given, and makes its other files itself; the store is
+put back as it was before each run, and that isn't timed. Texts are compared with those of the first
+program. It takes 1 GB for each program, and minutes.
 """
 import argparse
 import os
@@ -25,6 +26,8 @@ import tempfile
 ID = "000102030405060708090a0b0c0d0e0f"
 SEALS, LANES, WIDTH = 64, 64, 40
 SEED = f"{7:064}"
+MAKE_BOARD = os.path.join(os.path.dirname(os.path.realpath(__file__)), "make_board.py")
+CLAIMS = (("units", "64 40 8 1", "units:8"), ("matching", "16 4 16 1", "matching"))
 STORE = ("house.sqlite", "house.sqlite-wal")
 
 
@@ -80,12 +83,23 @@ class Build:
         self.run("answer", ID, "challenge", "reply")
         self.keep("answered")
         self.run("sample", "1")
+        for folder, numbers, kind in CLAIMS:
+            words = [sys.executable, MAKE_BOARD, *numbers.split(), folder, kind]
+            subprocess.run(words, cwd=self.folder, check=True)
+
+
+def in_folder(folder):
+    return [os.path.join(folder, name) for name in ("claim", "challenge-1", "reply-1")]
 
 
 def commands():
     """Each command: what it is called, the store that it finds, and its words."""
     sample = ["sample-board", "sample-challenge-1", "sample-reply-1"]
     second = ["sample-challenge-2", "sample-reply-2"]
+    claims = [
+        (f"claim-verify, {folder}", "answered", ["claim-verify", *in_folder(folder)])
+        for folder, _, _ in CLAIMS
+    ]
     return [
         (f"submit the {SEALS}th", "taken", ["submit", ID, f"seal-{SEALS}", f"secret-{SEALS}"]),
         ("prove", "full", ["prove", ID, SEED, "board"]),
@@ -95,6 +109,7 @@ def commands():
         ("verify, sample 1", "answered", ["verify", *sample]),
         ("extract, sample 1", "answered", ["extract", *sample, *second]),
         ("sample 1", "answered", ["sample", "1"]),
+        *claims,
     ]
 
 
@@ -121,7 +136,7 @@ def table(builds, seconds):
             spent = seconds[name, number]
             least, median = min(spent), statistics.median(spent)
             ratios = f"{least / min(first):.2f} {median / statistics.median(first):.2f}"
-            print(f"{name:18} {least:.4f} {median:.4f}  {ratios}  {build.program}")
+            print(f"{name:22} {least:.4f} {median:.4f}  {ratios}  {build.program}")
 
 
 def main():
