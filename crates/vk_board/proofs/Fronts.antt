@@ -9,8 +9,8 @@ use Rattle.vk_board.specs.Values.{IsHead, AreSeals}
 use Rattle.vk_board.specs.Reading.{head_at, seals_at}
 use Rattle.vk_board.specs.Published.{price_stands, placed}
 use Rattle.vk_board.specs.Fronts.{IsFront, FrontFault, Price, in_front, front_with, front_placed, front_of, front_at}
-use Rattle.vk_board.proofs.Prices.{price_shown, price_found}
-use Rattle.vk_board.proofs.Winners.{winner_shown, winner_found}
+use Rattle.vk_board.proofs.Prices.{price_shown}
+use Rattle.vk_board.proofs.Winners.{winner_shown}
 
 pub front_right : (head : Head) (seals : List SealLines) (position : Option ℕ) → IsHead head
     → AreSeals head seals → price_stands head ≡ true → placed head.winner seals ≡ Some position
@@ -61,15 +61,6 @@ front_of_shown : (head : Head) (seals : List SealLines) (front : Front)
     × (placed head.winner seals ≡ Some position) × (front_with head seals position ≡ front)
 unfolding front_of
 front_of_shown head seals front ok = tests_shown head seals (price_stands head) front refl ok
-
-front_of_found : (front : Front) → IsFront front → front_of front.head front.seals ≡ Ok front
-unfolding front_of
-front_of_found front is =
-    rw (
-      price_found front.head is.price,
-      winner_found front.head front.seals front.head.winner front.position is.seals is.winner,
-    )
-    refl
 
 -- ---- the lines before the first lane
 

@@ -4,9 +4,6 @@ use Rattle.std.proofs.lemmas.Bool.Decides.{nat_tests}
 use Rattle.vk_residue.specs.Residue.{modulus}
 use Rattle.vk_dice.specs.Draws.{drawn_by, IsOneOfEight}
 
-low_bits : (r j : ℕ) → r < 2 ^ 61 → (r + j * 2 ^ 61) % 2 ^ 61 ≡ r
-low_bits r j h = omega arith
-
 -- a word by its low 61 bits and the rest
 pub parts : (word number : ℕ) → word < 2 ^ 64 → word % 2 ^ 61 ≡ number → IsOneOfEight number word
 parts word number h e = (word / 2 ^ 61, omega arith, omega arith)

@@ -1,5 +1,5 @@
 -- A draw over several words, one word at a time.
-use Rattle.std.proofs.Common.{◌≡◌, ℕ, suc, ◌+◌, Some, None, sym, ap, ◌∙◌, add_assoc, zero-add}
+use Rattle.std.proofs.Common.{◌≡◌, ℕ, suc, ◌+◌, None, sym, ap, ◌∙◌, add_assoc, zero-add}
 use Rattle.vk_dice.specs.Words.{later}
 use Rattle.vk_dice.specs.Draws.{drawn_by, first_of, residue_within, one_and, looked_at}
 
@@ -26,15 +26,3 @@ looked_others n m now new e none after =
     ∙ ap (λ o. later (one_and o (looked_at m (later 1 now))) now) none
     ∙ sym (later-later 1 (looked_at m (later 1 now)) now)
     ∙ ap (λ f. later (looked_at m f) f) (sym after)
-
--- a word that draws a residue ends the draw
-pub within_found : (n m r : ℕ) (now : ℕ → ℕ) → n ≡ suc m → drawn_by (now 0) ≡ Some r
-    → residue_within n now ≡ Some r
-within_found n m r now e found =
-    ap (λ k. residue_within k now) e ∙ ap (λ o. first_of o (residue_within m (later 1 now))) found
-
-pub looked_found : (n m r : ℕ) (now : ℕ → ℕ) → n ≡ suc m → drawn_by (now 0) ≡ Some r
-    → later (looked_at n now) now ≡ later 1 now
-looked_found n m r now e found =
-    ap (λ k. later (looked_at k now) now) e
-    ∙ ap (λ o. later (one_and o (looked_at m (later 1 now))) now) found

@@ -1,5 +1,5 @@
 -- How a command ends, from what its parts did.
-use Rattle.std.proofs.Common.{◌≡◌, ℕ, List, ◌++◌, Option, Some, None, Result, Ok, Err, refl, ap, subst, ◌∙◌, inl, inr}
+use Rattle.std.proofs.Common.{◌≡◌, ℕ, List, Option, Some, None, Result, Ok, Err, ap, subst, ◌∙◌, inl, inr}
 use Rattle.std.specs.Prelude.{option_map, IfSome, IfOk}
 use Rattle.vk_io.specs.Files.{Files, Modelled, Takes}
 use Rattle.vk_io.specs.declared.errors.OutsideErr.{OutsideErr}
@@ -30,11 +30,6 @@ read_and_said said (Some files) new ledger (Ok value) same is =
 read_and_said said (Some files) new ledger (Err stop) same is =
     inl (ap (λ left. stores left ledger) same)
 
--- a command that was stopped where nothing had changed
-pub stopped_before : (effect : Effect) (old : Stores) (stop : OutsideErr)
-    → Acts (Err stop) effect old old
-stopped_before effect old stop = inl refl
-
 -- a deed that was made ready by reading, and then done
 pub deed_acts : (found : Option DeedValue) (deed : DeedValue) (held between now : Option Files)
     (ledger : Option Ledger) (answer : Result SaidValue OutsideErr) → between ≡ held
@@ -49,14 +44,6 @@ deed_acts (Some expected) deed held between now ledger answer same is acts =
     is acts)
 
 -- ---- a whole command
-
--- a command was stopped before it printed
-pub stopped_acting : (effect : Effect) (old new : Stores) (taken : Option (List ℕ))
-    (stop : OutsideErr) → Acts (Err stop) effect old new
-    → Ends (Err stop) effect (outside old taken) (outside new taken)
-stopped_acting effect old new taken stop (inl same) = inl (ap (λ left. outside left taken) same)
-stopped_acting effect old new taken stop (inr left) =
-    inr (left.0, inl (record { files_are = left.1; taken_is = refl }))
 
 -- it was stopped while it printed
 pub stopped_printing : {E : Type 0} (effect : Effect) (old new : Stores)
@@ -73,20 +60,6 @@ stopped_printing effect old new taken now said text refusal stop text_is acts to
             (text_is ∙ ap (λ (s : SaidValue). s.text) acts.0) told;
       }),
     )
-
--- it came to its end
-pub done_at_end : (E : Type 0) (effect : Effect) (old new : Stores) (taken now : Option (List ℕ))
-    (said : SaidValue) (text : List ℕ) (status : ℕ) → text ≡ said.text → status ≡ said.status
-    → Acts (Ok said) effect old new → Modelled (Takes {E = E} text (Ok tt)) taken now
-    → Ends (Ok status) effect (outside old taken) (outside new now)
-done_at_end E effect old new taken now said text status text_is status_is acts told = record {
-  status_is = status_is ∙ ap (λ (s : SaidValue). s.status) acts.0;
-  files_are = ap (λ (left : Stores). left.files) acts.1;
-  ledger_is = ap (λ (left : Stores). left.ledger) acts.1;
-  taken_is = told_map (λ before. before ++ effect.text) taken now
-      (subst (λ t. Modelled (Takes {E = E} t (Ok tt)) taken now)
-      (text_is ∙ ap (λ (s : SaidValue). s.text) acts.0) told);
-}
 
 -- ---- effects that are known
 

@@ -89,10 +89,3 @@ pub stops_later : (status : ℕ) (effect : Effect) (effects : List Effect) (clos
 stops_later status effect effects closing old now new is stops =
     inr (subst (λ left. StopsAmong effects closing left new) (done_is status effect old now is)
     stops)
-
--- all of them are done where the first was, and then the others
-pub done_later : (status : ℕ) (effect : Effect) (effects : List Effect) (closing : List ℕ)
-    (old now new : Outside) → Done status effect old now → new ≡ done_all effects closing now
-    → new ≡ done_all (effect ∷ effects) closing old
-done_later status effect effects closing old now new is all =
-    all ∙ ap (done_all effects closing) (done_is status effect old now is)

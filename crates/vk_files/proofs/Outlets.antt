@@ -4,12 +4,6 @@ use Rattle.std.proofs.Math.Seq.{take-add}
 use Rattle.std.specs.Option.{option_map}
 use Rattle.vk_io.specs.Files.{Modelled}
 
--- what stays as it was, whether or not it is modelled
-pub unmoved : {X : Type 0} (old new : Option X) → Modelled (λ a b. b ≡ a) old new → new ≡ old
-unmoved None new p = p
-unmoved (Some a) None p = absurd p
-unmoved (Some a) (Some b) p = ap Some p
-
 -- so many bytes of the piece were taken, and then so many of the rest
 pub taken_more : (old now new : Option (List ℕ)) (piece rest : List ℕ) (done count : ℕ)
     → rest ≡ drop done piece → now ≡ option_map (λ taken. taken ++ take done piece) old

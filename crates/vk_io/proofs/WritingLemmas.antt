@@ -6,7 +6,7 @@ use Rattle.std.proofs.lemmas.List.Folds.{concat-append}
 use Rattle.std.proofs.Math.Seq.{take-append-add}
 use Rattle.std.specs.Option.{unwrap_or}
 use Rattle.std.specs.FinMap.{insert}
-use Rattle.vk_io.specs.Files.{Files, bytes_of, Modelled, Creates, Appends}
+use Rattle.vk_io.specs.Files.{Files, bytes_of, Modelled, Appends}
 use Rattle.vk_io.specs.Writing.{Writes, written, IsDivided, WritesAll}
 use Rattle.vk_io.proofs.Finite.{get_own, insert_over}
 
@@ -30,12 +30,6 @@ pub told_same : {X : Type 0} (P : X → X → Type 0) → ((x : X) → P x x) �
     → Modelled P a a
 told_same P same None = refl
 told_same P same (Some x) = same x
-
--- a refused `create` leaves a part of any text
-pub part_from_create : {E : Type 0} (name text : List ℕ) (refusal : E) (old new : Files)
-    → Creates {E = E} name (Err refusal) old new → Writes {E = E} name text (Err refusal) old new
-part_from_create name text refusal old new (inl same) = inl same
-part_from_create name text refusal old new (inr emptied) = inr (0, omega arith, emptied)
 
 -- what `append` adds to a file that holds these bytes
 grown_from : (name front piece : List ℕ) (old : Files)

@@ -2,7 +2,7 @@
 use Rattle.std.proofs.Common.{◌≡◌, ℕ, zero, suc, ◌+◌, ◌-◌, ◌<◌, ◌≤◌, arith, length-append, Bool, false, List, [], ◌∷◌, ◌++◌, length, map, refl, sym, ap, ◌∙◌, append_assoc}
 use Rattle.std.specs.Prelude.{codes, slice_index_or}
 use Rattle.std.specs.List.{concat, flat_map, range_with_len}
-use Rattle.std.proofs.lemmas.List.{append-nil, length-map, get_or_append_left, get_or-append_right, get_or_at, get_or-map}
+use Rattle.std.proofs.lemmas.List.{append-nil, length-map, get_or_append_left, get_or-append_right, get_or_at}
 use Rattle.std.proofs.lemmas.List.FromFn.{get_or-map-range_with_len}
 use Rattle.vk_lines.specs.Forms.{line, numbered_text}
 use Rattle.vk_board.specs.Texts.{board_text, head_text, seal_lines_text, lane_text}
@@ -12,7 +12,7 @@ use Rattle.vk_reply.specs.declared.challenge.Challenge.{Challenge}
 use Rattle.vk_reply.specs.Texts.{reply_text, reply_head_text, reply_lane_text}
 use Rattle.vk_keeper.specs.declared.auction.SealRow.{SealRow}
 use Rattle.vk_keeper.specs.declared.auction.Auction.{Auction}
-use Rattle.vk_job.specs.Proofs.{ProofValue, no_row, seal_lines_of, lane_in, lanes_in, lane_shown_in, lanes_shown_from, file_of, file_pieces, reply_in, reply_lanes_in, reply_pieces_in}
+use Rattle.vk_job.specs.Proofs.{ProofValue, seal_lines_of, lane_in, lanes_in, lane_shown_in, lanes_shown_from, file_of, file_pieces, reply_in, reply_lanes_in, reply_pieces_in}
 use Rattle.vk_job.specs.Jobs.{proof_of}
 use Rattle.vk_job.specs.Published.{head_of, board_of, reply_of, board_pieces, reply_pieces}
 use Rattle.vk_job.proofs.Parts.{length_shown}
@@ -97,20 +97,6 @@ length_file_pieces head proof =
       length-map proof.rows (λ row. seal_lines_text (seal_lines_of row)),
       length_listed (λ index. lane_text (index + 1) (lane_in proof (index + 1))) proof.lanes,
     )
-
-pub seal_piece_is : (head : List ℕ) (proof : ProofValue) (index : ℕ) → 1 ≤ index
-    → index ≤ length proof.rows
-    → slice_index_or (file_pieces head proof) index []
-    ≡ seal_lines_text (seal_lines_of (slice_index_or proof.rows (index - 1) no_row))
-seal_piece_is head proof zero some last = absurd (omega arith)
-seal_piece_is head proof (suc k) some last =
-    let text : SealRow → List ℕ = λ row. seal_lines_text (seal_lines_of row) in
-    let lanes = listed (λ index. lane_text (index + 1) (lane_in proof (index + 1))) proof.lanes in
-    let back : k ≡ suc k - 1 = omega arith in
-    get_or_append_left (map text proof.rows) (lanes ++ line (codes "end") ∷ []) [] k
-    (omega (arith, length-map proof.rows text))
-    ∙ get_or-map text proof.rows k no_row [] (omega arith)
-    ∙ ap (λ place. text (slice_index_or proof.rows place no_row)) back
 
 -- behind the head and the seals
 behind_seals : (head : List ℕ) (proof : ProofValue) (index : ℕ) → length proof.rows < index

@@ -7,7 +7,7 @@ use Rattle.vk_vickrey.specs.BoardPlans.{BoardNumbers, board_numbers, board_plan,
 use Rattle.vk_keeper.specs.declared.auction.Auction.{Auction}
 use Rattle.vk_keeper.specs.Auctions.{IsAuction, seed_of}
 use Rattle.vk_job.specs.Outcome.{sale_of, position_in}
-use Rattle.vk_job.specs.Proofs.{ProofValue, Dry, source_of, given_in, drawn_in, first_dry_from, first_dry_in, lane_tape_in, IsDrawnIn, IsFirstDryIn}
+use Rattle.vk_job.specs.Proofs.{ProofValue, Dry, source_of, given_in, drawn_in, first_dry_from, first_dry_in, lane_tape_in, IsFirstDryIn}
 
 -- ---- the sale
 
@@ -76,10 +76,6 @@ dry_from auction seed lane count = first_dry_from (source_of (proof_with auction
 -- the first in the auction, if there is one
 abbrev pub dry_in : Auction → List ℕ → Option Dry
 dry_in auction seed = first_dry_in (source_of (proof_with auction seed))
-
--- the lane has a tape
-abbrev pub HasTape : Auction → List ℕ → ℕ → Type 0
-HasTape auction seed lane = IsDrawnIn (source_of (proof_with auction seed)) lane
 
 -- this lane is dry at that wire, and those before it have tapes
 abbrev pub IsFirstDry : Auction → List ℕ → Dry → Type 0

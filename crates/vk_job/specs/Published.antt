@@ -13,7 +13,7 @@ use Rattle.vk_keeper.specs.declared.auction.Phase.TheVariants.{Taking, Proved, A
 use Rattle.vk_keeper.specs.declared.auction.Auction.{Auction}
 use Rattle.vk_job.specs.Outcome.{price_in}
 use Rattle.vk_job.specs.Jobs.{sale_in, winner_of, proof_of}
-use Rattle.vk_job.specs.Proofs.{seal_lines_of, lane_in, lanes_in, lane_shown_in, lanes_shown_from, file_pieces, reply_in, reply_lanes_in, reply_pieces_in}
+use Rattle.vk_job.specs.Proofs.{seal_lines_of, lane_in, lanes_in, lane_shown_in, lanes_shown_from, file_pieces, reply_in, reply_pieces_in}
 
 -- ---- the board
 
@@ -72,9 +72,6 @@ shown_from auction lane bits = lanes_shown_from (proof_of auction) lane bits
 -- the file of the reply to a challenge that has a bit for each lane, and its pieces
 abbrev pub reply_of : Auction → Challenge → List ℕ
 reply_of auction challenge = reply_in (proof_of auction) challenge.bits
-
-abbrev pub reply_lanes : Auction → ℕ → List Bool → List (List ℕ)
-reply_lanes auction lane bits = reply_lanes_in (proof_of auction) lane bits
 
 abbrev pub reply_pieces : Auction → Challenge → List (List ℕ)
 reply_pieces auction challenge = reply_pieces_in (proof_of auction) challenge.bits

@@ -6,16 +6,12 @@ use Rattle.memchr.specs.Find.{NoneBefore, Nowhere, Passes, is_byte}
 use Rattle.std.proofs.lemmas.Bool.Decides.{nat_tests}
 use Rattle.std.proofs.lemmas.Bool.{cases_lt}
 use Rattle.std.proofs.lemmas.List.{take_all, drop_all, length-take, length-take-le, length-drop, drop-take, drop-drop, take-append-le, drop-append-le, take-append-drop}
-use Rattle.std.proofs.lemmas.List.Sums.{prefix_len-le-length, position_or_len_is}
+use Rattle.std.proofs.lemmas.List.Sums.{position_or_len_is}
 use Rattle.vk_io.specs.Files.{Files, bytes_of, part_of}
 use Rattle.vk_lines.specs.declared.step.Step.{Step}
 use Rattle.vk_lines.specs.declared.step.Step.TheVariants.{Text, End, Long, Cut}
 use Rattle.vk_lines.specs.Buffers.{IsEnough, HasLooked, after_step, with_piece}
 use Rattle.vk_lines.specs.Lines.{LinesValue, Rest, IsNext, Starts, none_left, ended, is_end, answer_by, GivesReading, feed_at, line_taken, rest_in, rest_of, step_by, step_of, text_at, unread, unread_in, KeepsFile}
-
--- no later than the end
-pub feed_at-le-length : (text : List ℕ) → feed_at text ≤ length text
-feed_at-le-length text = prefix_len-le-length _ text
 
 -- a test that is never passed fails
 pub not_passed : (test : Bool) → (test ≡ true → ⊥) → test ≡ false

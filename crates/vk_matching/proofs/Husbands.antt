@@ -1,9 +1,7 @@
 -- The men of women 1, 2, .., entered man by man.
-use Rattle.std.proofs.Common.{ℕ, ◌+◌, ◌-◌, ◌<◌, ◌≤◌, ◌≡◌, List, length, replicate, slice_index, refl, sym, ap, ◌∙◌, subst, arith, inl, inr}
-use Rattle.std.specs.Prelude.{◌≢◌, slice_set}
-use Rattle.std.proofs.lemmas.Bool.{cases_lt}
-use Rattle.std.proofs.lemmas.Bool.Decides.{eqb_tells}
-use Rattle.std.proofs.lemmas.List.{get_or_default, get_or-replicate, get_or-set_same, get_or-set_other, length-set, length-replicate, ext_get_or}
+use Rattle.std.proofs.Common.{ℕ, ◌+◌, ◌-◌, ◌<◌, ◌≤◌, ◌≡◌, List, length, slice_index, refl, sym, ap, ◌∙◌, subst, arith}
+use Rattle.std.specs.Prelude.{◌≢◌}
+use Rattle.std.proofs.lemmas.List.{get_or_default, ext_get_or}
 use Rattle.vk_range.specs.SetLaws.{length_listed, at_listed}
 use Rattle.vk_matching.specs.Stability.{IsPerson, IsPermutation, wife_of}
 use Rattle.vk_matching.specs.Couples.{husband_of, husbands_of, husband_is}
@@ -15,69 +13,6 @@ pub record AreEntered (wives husbands : List ℕ) (count : ℕ) : Type 0 where
   pub entered : (k : ℕ) → k < count → slice_index husbands (slice_index wives k - 1) ≡ k + 1
   pub only : (w : ℕ) → w < length wives → slice_index husbands w ≢ 0
       → (slice_index husbands w ≤ count) × (slice_index wives (slice_index husbands w - 1) ≡ w + 1)
-
-pub none_entered : (wives : List ℕ) → AreEntered wives (replicate (length wives) 0) 0
-none_entered wives = record {
-  one_each = length-replicate (length wives) 0;
-  are_persons = λ k h. absurd (omega arith);
-  entered = λ k h. absurd (omega arith);
-  only = λ w h some. absurd (some (get_or-replicate (length wives) w 0 0 h));
-}
-
-module _ (wives husbands : List ℕ) (place : ℕ) (are : AreEntered wives husbands place) (inside : place < length wives)
-    (is : IsPerson (length wives) (slice_index wives place)) where
-  -- one man more
-  pub entered_more : slice_index husbands (slice_index wives place - 1) ≡ 0
-      → AreEntered wives (slice_set husbands (slice_index wives place - 1) (place + 1)) (place + 1)
-  entered_more free =
-      let at = slice_index wives place - 1 in
-      let room : at < length husbands = omega (arith, are.one_each, is.some, is.within) in
-      let here = get_or-set_same husbands at (place + 1) 0 room in
-      record {
-        one_each = length-set husbands at (place + 1) ∙ are.one_each;
-        are_persons = λ k h. elim (cases_lt k place) [
-          | inl q ↦ are.are_persons k q
-          | inr q ↦ (let last : k ≡ place = omega arith in
-              subst (λ n. IsPerson (length wives) (slice_index wives n)) (sym last) is)
-        ];
-        entered = λ k h. elim (cases_lt k place) [
-          | inl q ↦
-              (let before = are.entered k q in
-              let other : slice_index wives k - 1 ≢ at =
-              λ same. omega (arith, before, free, ap (slice_index husbands) same) in
-              get_or-set_other husbands at (slice_index wives k - 1) (place + 1) 0 other ∙ before)
-          | inr q ↦
-              (let last : k ≡ place = omega arith in
-              subst (λ n. slice_index (slice_set husbands at (place + 1)) (slice_index wives n - 1)
-              ≡ n + 1) (sym last) here)
-        ];
-        only = λ w h some. elim (eqb_tells w at) [
-          | inl same ↦
-              (let read : slice_index (slice_set husbands at (place + 1)) w ≡ place + 1 =
-              ap (slice_index (slice_set husbands at (place + 1))) same.1 ∙ here in
-              let back : slice_index (slice_set husbands at (place + 1)) w - 1 ≡ place = omega arith
-              in (
-                omega arith,
-                ap (slice_index wives) back ∙ omega (arith, same.1, is.some),
-              ))
-          | inr other ↦
-              (let read = get_or-set_other husbands at w (place + 1) 0 other.1 in
-              let before = are.only w h (λ none. some (read ∙ none)) in (
-                omega (arith, before.0, read),
-                ap (λ n. slice_index wives (n - 1)) read ∙ before.1,
-              ))
-        ];
-      }
-
-  -- where she is another's already, they don't all have women of their own
-  pub entered_twice : slice_index husbands (slice_index wives place - 1) ≢ 0
-      → ¬ IsPermutation (length wives) wives
-  entered_twice taken permutation =
-      let at = slice_index wives place - 1 in
-      let other = are.only at (omega (arith, is.some, is.within)) taken in
-      permutation.all_different (slice_index husbands at - 1) place 0
-      (omega (arith, other.0, taken)) inside
-      (other.1 ∙ omega (arith, is.some))
 
 module _ (wives husbands : List ℕ) (are : AreEntered wives husbands (length wives)) where
   -- where all are entered, each has a woman of his own

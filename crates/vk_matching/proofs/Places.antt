@@ -1,8 +1,8 @@
 -- The lists behind a court: what a write changes, and how many women are free.
-use Rattle.std.proofs.Common.{ℕ, suc, ◌+◌, ◌*◌, ◌<◌, ◌≤◌, ◌≡◌, ◌≢◌, Bool, true, false, not, cond, Option, Some, None, is_none, List, [], ◌∷◌, ◌⊎◌, inl, inr, length, slice_index_or, slice_set, refl, ap, arith}
+use Rattle.std.proofs.Common.{ℕ, suc, ◌+◌, ◌*◌, ◌<◌, ◌≤◌, ◌≡◌, ◌≢◌, cond, Option, Some, None, is_none, List, [], ◌∷◌, ◌⊎◌, inl, inr, length, slice_set, refl, arith}
 use Rattle.std.proofs.lemmas.List.Sums.{sum_by-set, sum_by-cons}
 use Rattle.std.proofs.lemmas.Nat.{same_from_place}
-use Rattle.vk_matching.specs.Courting.{free, unasked, held_by}
+use Rattle.vk_matching.specs.Courting.{free, held_by}
 
 -- another question stands at another place
 pub other_place : (size suitor woman man other : ℕ) → woman < size → other < size
@@ -20,17 +20,6 @@ some_free (Some man ∷ rest) some =
     let fewer = sum_by-cons (λ holder. cond (is_none holder) 1 0) (Some man) rest in
     let found = some_free rest (omega arith) in
     (suc found.0, omega (arith, found.1), found.2)
-
--- one question more is asked
-pub fewer_unasked : (asked : List Bool) (place : ℕ) → place < length asked
-    → slice_index_or asked place false ≡ false
-    → unasked (slice_set asked place true) + 1 ≡ unasked asked
-fewer_unasked asked place inside open_yet =
-    let e : unasked (slice_set asked place true) + cond (not (slice_index_or asked place false)) 1 0
-    ≡ unasked asked + 0 = sum_by-set (λ x. cond (not x) 1 0) asked place true false inside in
-    let was : cond (not (slice_index_or asked place false)) 1 0 ≡ 1 =
-    ap (λ (x : Bool). cond {A = ℕ} (not x) 1 0) open_yet in
-    omega (arith, e, was)
 
 -- who is free, before and after she takes a man
 pub free_after : (holders : List (Option ℕ)) (woman man : ℕ) → woman < length holders

@@ -49,11 +49,6 @@ unfolding linear_part
 linear_part-append terms more values =
     rw (sum_by-append (term_value values) terms more) (omega arith)
 
--- a value is a residue
-pub form_value_below : (form : Form) (values : List ℕ) → form_value form values < modulus
-unfolding form_value
-form_value_below form values = omega arith
-
 -- only the first values count, where the terms name no others
 pub form_value-take : (form : Form) (wires : ℕ) (values : List ℕ) → wires ≤ length values
     → NamesBelow wires form.terms

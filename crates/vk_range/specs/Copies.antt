@@ -1,7 +1,7 @@
 -- What a circuit begins with: its inputs, and behind them a copy of each.
 use Rattle.std.specs.Prelude.{ℕ, ◌+◌, ◌<◌, ◌≤◌, ◌≡◌, false, List, [], ◌∷◌, ◌++◌, All, length, replicate, slice_index}
 use Rattle.std.proofs.Common.{refl, sym, ap, ◌∙◌, subst, arith, length-append, append_assoc}
-use Rattle.std.proofs.lemmas.List.{append-nil, length-replicate, get_or_append_left, get_or-append-add}
+use Rattle.std.proofs.lemmas.List.{length-replicate, get_or_append_left, get_or-append-add}
 use Rattle.std.proofs.lemmas.List.Elements.{All-nil}
 use Rattle.vk_residue.specs.Residue.{IsResidue}
 use Rattle.vk_plan.specs.declared.wire.WireKind.{WireKind}
@@ -58,12 +58,6 @@ IsPlan-copies inputs count most few =
     (All-listed HasWeight (λ _. Split) count (λ j h. tt)) (row_names inputs count few)
     (omega (arith, length-replicate inputs Split, length_listed (λ _. Split) count))
     (omega (arith, length_listed (λ j. difference_form j (inputs + j) false) count))
-
--- no copy, and one copy more
-pub copies_none : (inputs : ℕ) → copies inputs 0 ≡ plan_of_inputs inputs
-copies_none inputs =
-    same_plan inputs (replicate inputs Split ++ []) (replicate inputs Split) [] []
-    (append-nil (replicate inputs Split)) refl
 
 pub copies_more : (inputs count : ℕ)
     → copies inputs (count + 1)
@@ -153,11 +147,3 @@ begins_longer inputs values more begins = record {
   copied = λ j h. get_or_append_left values more 0 (length inputs + j)
       (omega (arith, begins.enough)) ∙ begins.copied j h;
 }
-
-pub begins_here : (inputs values : List ℕ) → values ≡ inputs ++ inputs → BeginsWith inputs values
-begins_here inputs values same = subst (BeginsWith inputs) (sym same) (begins_alone inputs)
-
-pub begins_next : (inputs values more next : List ℕ) → next ≡ values ++ more
-    → BeginsWith inputs values → BeginsWith inputs next
-begins_next inputs values more next same begins =
-    subst (BeginsWith inputs) (sym same) (begins_longer inputs values more begins)

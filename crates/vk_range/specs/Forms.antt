@@ -1,5 +1,5 @@
 -- The forms that the relations put into rows.
-use Rattle.std.specs.Prelude.{List, ℕ, ◌-◌, ◌≤◌, Bool, if◌then◌else◌, [], ◌∷◌, length}
+use Rattle.std.specs.Prelude.{List, ℕ, ◌-◌, Bool, if◌then◌else◌, [], ◌∷◌, length}
 use Rattle.vk_residue.specs.Limits.{IsWidth}
 use Rattle.vk_residue.specs.Residue.{modulus}
 use Rattle.vk_plan.specs.declared.wire.WireKind.{WireKind}

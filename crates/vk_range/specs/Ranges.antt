@@ -1,5 +1,5 @@
 -- Several forms, each in the range of one width.
-use Rattle.std.specs.Prelude.{ℕ, ◌≤◌, List, [], All, length, slice_index_or}
+use Rattle.std.specs.Prelude.{ℕ, List, [], All, length, slice_index_or}
 use Rattle.vk_residue.specs.Limits.{IsWidth}
 use Rattle.vk_plan.specs.declared.wire.WireKind.{WireKind}
 use Rattle.vk_plan.specs.declared.form.Form.{Form}

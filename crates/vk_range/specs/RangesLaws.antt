@@ -1,17 +1,15 @@
 -- The two laws of ranges, and ranges as a series of sets.
-use Rattle.std.specs.Prelude.{ℕ, ◌+◌, ◌*◌, ◌<◌, ◌≤◌, ◌≡◌, List, [], ◌∷◌, ◌++◌, All, length, take, slice_index_or}
+use Rattle.std.specs.Prelude.{ℕ, ◌+◌, ◌<◌, ◌≡◌, List, [], ◌∷◌, ◌++◌, All, length, take, slice_index_or}
 use Rattle.std.proofs.Common.{sym, ap, ◌∙◌, subst, arith}
 use Rattle.std.proofs.lemmas.List.{get_or_default, length-replicate}
 use Rattle.vk_plan.specs.declared.wire.WireKind.TheVariants.{Split}
 use Rattle.vk_plan.specs.declared.form.Form.{Form}
 use Rattle.vk_plan.specs.Forms.{form_value, NamesBelow}
-use Rattle.vk_plan.specs.FormLaws.{NamesBelow-more}
 use Rattle.vk_plan.specs.Plans.{PlanValue, NamesOwnWires, IsPlan, Holds, plan_of_inputs, extended}
 use Rattle.vk_range.specs.declared.ranges.Ranges.{Ranges}
-use Rattle.vk_range.specs.Sets.{listed, IsOfWidth, test_set, set_row, bit_parts}
-use Rattle.vk_range.specs.SetLaws.{length_listed, at_listed, listed-same, joined-same, All-listed}
-use Rattle.vk_range.specs.Series.{IsSeries, series, series_kinds, series_rows, series_values, series_shorter, same_plan, next_room, series_sound, series_complete}
-use Rattle.vk_range.specs.Ranges.{no_form, form_at, AreRanges, AreOfWidth, ranges_wires, ranges_rows, ranges_values, listed_ranges}
+use Rattle.vk_range.specs.Sets.{IsOfWidth, test_set, set_row}
+use Rattle.vk_range.specs.Series.{IsSeries, series, series_shorter, next_room, series_sound, series_complete}
+use Rattle.vk_range.specs.Ranges.{no_form, form_at, AreRanges, AreOfWidth, ranges_wires, ranges_rows, ranges_values}
 
 -- what is so of the form at each index is so of all
 All-forms : (P : Form → Type 0) (forms : List Form)
@@ -88,58 +86,3 @@ pub ranges_over : (relation : Ranges) (values : List ℕ) → AreRanges relation
 ranges_over relation values fits =
     let same = length-replicate (length values) Split in
     (plan_of_inputs (length values), (subst (AreRanges relation) (sym same) fits, same))
-
--- the forms of a function: their plan and values are those of a series, they fit where it does, and
--- are of the width
-series_listed : (plan : PlanValue) (form : ℕ → Form) (width count : ℕ)
-    → extended plan (ranges_wires (listed_ranges form width count))
-    (ranges_rows (listed_ranges form width count) (length plan.kinds))
-    ≡ series plan form width count
-series_listed plan form width count =
-    let forms = listed form count in
-    let start = length plan.kinds in
-    same_plan plan.inputs (plan.kinds ++ series_kinds width (length forms))
-    (plan.kinds ++ series_kinds width count)
-    (plan.rows ++ series_rows (form_at forms) start width (length forms))
-    (plan.rows ++ series_rows form start width count)
-    (ap (λ n. plan.kinds ++ series_kinds width n) (length_listed form count))
-    (ap (λ n. plan.rows ++ series_rows (form_at forms) start width n) (length_listed form count)
-    ∙ ap (λ rows. plan.rows ++ rows)
-    (listed-same (λ i. set_row (form_at forms i) (start + i * width) width)
-    (λ i. set_row (form i) (start + i * width) width) count
-    (λ i h. ap (λ f. set_row f (start + i * width) width) (at_listed form count i no_form h))))
-
-pub listed_added : (plan now next : PlanValue) (relation : Ranges) (form : ℕ → Form)
-    (width count : ℕ) → now ≡ plan
-    → relation ≡ listed_ranges form width count
-    → next ≡ extended now (ranges_wires relation) (ranges_rows relation (length now.kinds))
-    → next ≡ series plan form width count
-listed_added plan now next relation form width count same is added =
-    added ∙ ap (λ p. extended p (ranges_wires relation) (ranges_rows relation (length p.kinds)))
-    same
-    ∙ ap (λ r. extended plan (ranges_wires r) (ranges_rows r (length plan.kinds))) is
-    ∙ series_listed plan form width count
-
-pub values_listed : (values : List ℕ) (form : ℕ → Form) (width count : ℕ)
-    → ranges_values (listed_ranges form width count) values ≡ series_values values form width count
-values_listed values form width count =
-    let forms = listed form count in
-    ap (λ n. series_values values (form_at forms) width n) (length_listed form count)
-    ∙ joined-same (λ i. bit_parts (form_value (form_at forms i) values) width)
-    (λ i. bit_parts (form_value (form i) values) width) count
-    (λ i h. ap (λ f. bit_parts (form_value f values) width) (at_listed form count i no_form h))
-
-pub listed_fits : (plan : PlanValue) (form : ℕ → Form) (width base count wires : ℕ)
-    → IsSeries plan form width base count → base ≤ wires
-    → AreRanges (listed_ranges form width count) wires
-listed_fits plan form width base count wires is_series enough = record {
-  names = All-listed (λ f. NamesBelow wires f.terms) form count
-      (λ i h. NamesBelow-more base wires (form i).terms enough (is_series.names i h));
-  wide = is_series.wide;
-}
-
-pub listed_of_width : (form : ℕ → Form) (width count : ℕ) (values : List ℕ)
-    → ((i : ℕ) → i < count → IsOfWidth width (form_value (form i) values))
-    → AreOfWidth (listed_ranges form width count) values
-listed_of_width form width count values each =
-    All-listed (λ f. IsOfWidth width (form_value f values)) form count each

@@ -654,14 +654,6 @@ first_place_found relation values place few fails passes =
     subst (λ p. serves relation values p ≡ true) (sym (at_range n place 0 inside))
     (passes inside)))
 
--- with no sets yet
-pub stage_none : (relation : SelectedIs) (plan : PlanValue)
-    → stage relation plan 0 ≡ extended plan (listed (λ _. Pair 0) (length relation.wires))
-    (selector_row relation (length plan.kinds) ∷ [])
-stage_none relation plan = ap (λ k.
-    extended plan k (selector_row relation (length plan.kinds) ∷ []))
-    (append-nil (listed (λ _. Pair 0) (length relation.wires)))
-
 -- each such plan is one, where there is room
 pub stage_room : (relation : SelectedIs) (plan : PlanValue) (count : ℕ) → IsPlan plan
     → IsSelection relation (length plan.kinds) → count ≤ length relation.wires
@@ -739,15 +731,6 @@ stage_cut relation plan now count same =
     (take (length plan.rows) (plan.rows ++ stage_rows relation (length plan.kinds) count)) plan.rows
     (take_at plan.kinds (stage_kinds relation count) (length plan.kinds) refl)
     (take_at plan.rows (stage_rows relation (length plan.kinds) count) (length plan.rows) refl)
-
-pub IsSelection-longer : (relation : SelectedIs) (few many : ℕ) → few ≤ many
-    → IsSelection relation few → IsSelection relation many
-IsSelection-longer relation few many le fits = record {
-  names = λ k d h. omega (arith, fits.names k d h);
-  one = fits.one;
-  most = fits.most;
-  wide = fits.wide;
-}
 
 -- the parts of the next place, after the values so far
 pub place_pushed : (relation : SelectedIs) (values now next : List ℕ) (place count number : ℕ)
