@@ -1,10 +1,9 @@
 ghost use Rattle.std.specs.Prelude.{length, true, ◌≡◌, ◌≤◌, ◌-◌, ◌⊎◌, IfSome, IfOk, IsErrOf};
 ghost use Rattle.std.specs.List.{All};
 ghost use Rattle.vk_residue.specs.Residue.{IsResidue};
-ghost use Rattle.vk_io.specs.Faults.{Causes, MayCause, Rose};
+ghost use Rattle.vk_io.specs.Faults.{MayCause, Rose};
 ghost use Rattle.vk_lines.specs.Forms.{many_at};
-ghost use Rattle.vk_lines.specs.Lines.{KeepsFile, OnlyReads, ReadsPart, line_by};
-ghost use Rattle.vk_lines.specs.declared.errors.ReadErr.TheVariants.{Failed};
+ghost use Rattle.vk_lines.specs.Lines.{Reads, ReadsFreely, line_by};
 ghost use Rattle.vk_board.specs.Values.{AreBytes, IsCom, IsVersion, IsReserve, IsWinner, IsHead, IsSealAfter, AreSealsOf, AreSeals, IsLaneLines};
 ghost use Rattle.vk_board.specs.Reading.{com_line, posted_line, seats_of, is_new_seat, seat_line, reserve_at, unsold_line, winner_line, head_at, seal_at, seal_lines_at, seals_at, lane_at, seat_at, lane_begun_at, wires_at, HasRead, IsAmongSeals};
 
@@ -24,12 +23,9 @@ use vk_wire::WireCom;
 /// the number of the first line that isn't what its place demands.
 #[tactic(auto, unfolding(crate::specs::Reading::head_at))]
 pub fn read_head<S: Shelf>(shelf: &mut S, lines: &mut Lines) -> Result<Head, ReadErr>
-    ensures modelled { ReadsPart head_at (S.held shelf.old) lines.old lines.new result }
+    ensures reads { ReadsFreely head_at S.held S.Shelf.faults S.Shelf.wants
+        lines.old lines.new shelf.old shelf.new result }
     ensures right { IfOk result IsHead }
-    ensures file { KeepsFile lines.old lines.new }
-    ensures shelf { OnlyReads S.held S.Shelf.faults ReadErr.Failed result shelf.old shelf.new }
-    ensures wants { Causes ReadErr.NoMemory result (S.Shelf.wants shelf.old)
-        (S.Shelf.wants shelf.new) }
 {
     let version = lines.read_number(shelf, b"vickrey-board", 1, 2)?;
     let auction = lines.read_id(shelf, b"auction")?;
@@ -100,13 +96,9 @@ fn head_from(
 /// Reads the reserve that version 2 names; version 1 has no such line, and the reserve 0.
 #[tactic(auto, unfolding(crate::specs::Reading::reserve_at))]
 fn read_reserve<S: Shelf>(shelf: &mut S, lines: &mut Lines, version: u64) -> Result<u64, ReadErr>
-    ensures modelled { ReadsPart (reserve_at version) (S.held shelf.old) lines.old lines.new
-        result }
+    ensures reads { ReadsFreely (reserve_at version) S.held S.Shelf.faults S.Shelf.wants
+        lines.old lines.new shelf.old shelf.new result }
     ensures right { IfOk result (IsReserve version) }
-    ensures file { KeepsFile lines.old lines.new }
-    ensures shelf { OnlyReads S.held S.Shelf.faults ReadErr.Failed result shelf.old shelf.new }
-    ensures wants { Causes ReadErr.NoMemory result (S.Shelf.wants shelf.old)
-        (S.Shelf.wants shelf.new) }
 {
     if version != 2 {
         return Ok(0);
@@ -123,13 +115,9 @@ fn read_winner<S: Shelf>(
     lines: &mut Lines,
     version: u64,
 ) -> Result<Option<u16>, ReadErr>
-    ensures modelled { ReadsPart (line_by (winner_line version)) (S.held shelf.old) lines.old
-        lines.new result }
+    ensures reads { ReadsFreely (line_by (winner_line version)) S.held S.Shelf.faults S.Shelf.wants
+        lines.old lines.new shelf.old shelf.new result }
     ensures right { IfOk result (IsWinner version) }
-    ensures file { KeepsFile lines.old lines.new }
-    ensures shelf { OnlyReads S.held S.Shelf.faults ReadErr.Failed result shelf.old shelf.new }
-    ensures wants { Causes ReadErr.NoMemory result (S.Shelf.wants shelf.old)
-        (S.Shelf.wants shelf.new) }
 {
     lines.read_text(shelf)?;
     let winner = lines.found(winner_of(lines.text(), version));
@@ -166,10 +154,9 @@ pub fn read_seals<S: Shelf>(
     lines: &mut Lines,
     head: &Head,
 ) -> Result<Seq<SealLines>, ReadErr>
-    ensures modelled { ReadsPart (seals_at head.now) (S.held shelf.old) lines.old lines.new result }
+    ensures reads { Reads (seals_at head.now) S.held S.Shelf.faults
+        lines.old lines.new shelf.old shelf.new result }
     ensures right { IfOk result (AreSeals head.now) }
-    ensures file { KeepsFile lines.old lines.new }
-    ensures shelf { OnlyReads S.held S.Shelf.faults ReadErr.Failed result shelf.old shelf.new }
     ensures wants { MayCause ReadErr.NoMemory result (S.Shelf.wants shelf.old)
         (S.Shelf.wants shelf.new) }
     ensures behind { IsErrOf result ReadErr.NoMemory
@@ -190,11 +177,9 @@ pub fn read_seal_lines<S: Shelf>(
     count: u32,
     lanes: u32,
 ) -> Result<Seq<SealLines>, ReadErr>
-    ensures modelled { ReadsPart (seal_lines_at count lanes) (S.held shelf.old) lines.old lines.new
-        result }
+    ensures reads { Reads (seal_lines_at count lanes) S.held S.Shelf.faults
+        lines.old lines.new shelf.old shelf.new result }
     ensures right { IfOk result (AreSealsOf count lanes) }
-    ensures file { KeepsFile lines.old lines.new }
-    ensures shelf { OnlyReads S.held S.Shelf.faults ReadErr.Failed result shelf.old shelf.new }
     ensures wants { MayCause ReadErr.NoMemory result (S.Shelf.wants shelf.old)
         (S.Shelf.wants shelf.new) }
     ensures behind { IsErrOf result ReadErr.NoMemory
@@ -218,11 +203,9 @@ fn read_seal<S: Shelf>(
     lanes: u32,
     before: &[SealLines],
 ) -> Result<SealLines, ReadErr>
-    ensures modelled { ReadsPart (seal_at lanes before.now) (S.held shelf.old) lines.old lines.new
-        result }
+    ensures reads { Reads (seal_at lanes before.now) S.held S.Shelf.faults
+        lines.old lines.new shelf.old shelf.new result }
     ensures right { IfOk result (IsSealAfter lanes before.now) }
-    ensures file { KeepsFile lines.old lines.new }
-    ensures shelf { OnlyReads S.held S.Shelf.faults ReadErr.Failed result shelf.old shelf.new }
     ensures wants { MayCause ReadErr.NoMemory result (S.Shelf.wants shelf.old)
         (S.Shelf.wants shelf.new) }
     ensures behind { IsErrOf result ReadErr.NoMemory
@@ -253,14 +236,10 @@ fn read_seat<S: Shelf>(
     lines: &mut Lines,
     before: &[SealLines],
 ) -> Result<u16, ReadErr>
-    ensures modelled { ReadsPart (line_by (seat_line (seats_of before.now))) (S.held shelf.old)
-        lines.old lines.new result }
+    ensures reads { ReadsFreely (line_by (seat_line (seats_of before.now)))
+        S.held S.Shelf.faults S.Shelf.wants lines.old lines.new shelf.old shelf.new result }
     ensures some { IfOk result (λ seat. 1 ≤ seat) }
     ensures new { IfOk result (λ seat. is_new_seat (seats_of before.now) seat ≡ true) }
-    ensures file { KeepsFile lines.old lines.new }
-    ensures shelf { OnlyReads S.held S.Shelf.faults ReadErr.Failed result shelf.old shelf.new }
-    ensures wants { Causes ReadErr.NoMemory result (S.Shelf.wants shelf.old)
-        (S.Shelf.wants shelf.new) }
 {
     lines.read_text(shelf)?;
     let seat = lines.found(seat_of(lines.text(), before));
@@ -310,11 +289,9 @@ pub fn read_lane<S: Shelf>(
     wires: u32,
     rows: u32,
 ) -> Result<LaneLines, ReadErr>
-    ensures modelled { ReadsPart (lane_at lane wires rows) (S.held shelf.old) lines.old lines.new
-        result }
+    ensures reads { Reads (lane_at lane wires rows) S.held S.Shelf.faults
+        lines.old lines.new shelf.old shelf.new result }
     ensures right { IfOk result (IsLaneLines wires rows) }
-    ensures file { KeepsFile lines.old lines.new }
-    ensures shelf { OnlyReads S.held S.Shelf.faults ReadErr.Failed result shelf.old shelf.new }
     ensures wants { MayCause ReadErr.NoMemory result (S.Shelf.wants shelf.old)
         (S.Shelf.wants shelf.new) }
     ensures behind { IsErrOf result ReadErr.NoMemory
@@ -348,12 +325,10 @@ fn read_coms<S: Shelf>(
     word: &[u8],
     count: u32,
 ) -> Result<Seq<WireCom>, ReadErr>
-    ensures modelled { ReadsPart (many_at count (λ _. line_by (com_line word.now)))
-        (S.held shelf.old) lines.old lines.new result }
+    ensures reads { Reads (many_at count (λ _. line_by (com_line word.now))) S.held S.Shelf.faults
+        lines.old lines.new shelf.old shelf.new result }
     ensures number { IfOk result (λ coms. length coms ≡ count) }
     ensures digests { IfOk result (All IsCom) }
-    ensures file { KeepsFile lines.old lines.new }
-    ensures shelf { OnlyReads S.held S.Shelf.faults ReadErr.Failed result shelf.old shelf.new }
     ensures wants { MayCause ReadErr.NoMemory result (S.Shelf.wants shelf.old)
         (S.Shelf.wants shelf.new) }
     ensures first { IsErrOf result ReadErr.NoMemory
@@ -371,12 +346,10 @@ fn read_posted<S: Shelf>(
     lines: &mut Lines,
     count: u32,
 ) -> Result<Seq<Residue>, ReadErr>
-    ensures modelled { ReadsPart (many_at count (λ _. line_by posted_line)) (S.held shelf.old)
-        lines.old lines.new result }
+    ensures reads { Reads (many_at count (λ _. line_by posted_line)) S.held S.Shelf.faults
+        lines.old lines.new shelf.old shelf.new result }
     ensures number { IfOk result (λ posted. length posted ≡ count) }
     ensures right { IfOk result (All IsResidue) }
-    ensures file { KeepsFile lines.old lines.new }
-    ensures shelf { OnlyReads S.held S.Shelf.faults ReadErr.Failed result shelf.old shelf.new }
     ensures wants { MayCause ReadErr.NoMemory result (S.Shelf.wants shelf.old)
         (S.Shelf.wants shelf.new) }
     ensures first { IsErrOf result ReadErr.NoMemory

@@ -1,6 +1,6 @@
 // What stands in a claim file before its first lane.
 ghost use Rattle.std.specs.Prelude.{◌≡◌, IfOk};
-ghost use Rattle.vk_lines.specs.Lines.{KeepsFile, OnlyReads, ReadsPart};
+ghost use Rattle.vk_lines.specs.Lines.{Reads};
 ghost use Rattle.vk_claim.specs.Values.{IsClaimFront};
 ghost use Rattle.vk_claim.specs.Reading.{claim_front_at};
 
@@ -27,10 +27,9 @@ pub fn read_claim_front<S: Shelf>(
     shelf: &mut S,
     lines: &mut Lines,
 ) -> Result<ClaimFront, ReadErr>
-    ensures file { KeepsFile lines.old lines.new }
-    ensures modelled { ReadsPart claim_front_at (S.held shelf.old) lines.old lines.new result }
+    ensures reads { Reads claim_front_at S.held S.Shelf.faults
+        lines.old lines.new shelf.old shelf.new result }
     ensures right { IfOk result IsClaimFront }
-    ensures shelf { OnlyReads S.held S.Shelf.faults ReadErr.Failed result shelf.old shelf.new }
 {
     let head = read_claim_head(alloc, shelf, lines)?;
     let seals = read_seal_lines(alloc, shelf, lines, head.inputs, head.lanes)?;

@@ -2,7 +2,7 @@
 ghost use Rattle.std.specs.Prelude.{◌≡◌, ◌++◌, ◌∷◌, [], codes, decimal, IfOk, OnOk};
 ghost use Rattle.std.specs.List.{flat_map};
 ghost use Rattle.vk_lines.specs.Forms.{line, spaced};
-ghost use Rattle.vk_lines.specs.Lines.{KeepsFile, OnlyReads, ReadsPart, line_by};
+ghost use Rattle.vk_lines.specs.Lines.{Reads, line_by};
 ghost use Rattle.vk_claim.specs.Values.{AreNumbers, IsClaimHead};
 ghost use Rattle.vk_claim.specs.Texts.{claim_head_text, kind_word, numbers_text};
 ghost use Rattle.vk_claim.specs.Reading.{claim_head_at, kind_line, kind_of, numbers_at};
@@ -47,10 +47,9 @@ pub fn read_claim_head<S: Shelf>(
     shelf: &mut S,
     lines: &mut Lines,
 ) -> Result<ClaimHead, ReadErr>
-    ensures shelf { OnlyReads S.held S.Shelf.faults ReadErr.Failed result shelf.old shelf.new }
-    ensures modelled { ReadsPart claim_head_at (S.held shelf.old) lines.old lines.new result }
+    ensures reads { Reads claim_head_at S.held S.Shelf.faults
+        lines.old lines.new shelf.old shelf.new result }
     ensures right { IfOk result IsClaimHead }
-    ensures file { KeepsFile lines.old lines.new }
 {
     lines.read_fixed(shelf, b"vickrey-claim 1")?;
     let auction = lines.read_id(shelf, b"auction")?;
@@ -71,9 +70,8 @@ pub fn read_claim_head<S: Shelf>(
 /// Reads the line of a kind.
 #[tactic(auto, unfolding(vk_lines::specs::Lines::line_by))]
 fn read_kind<S: Shelf>(shelf: &mut S, lines: &mut Lines) -> Result<Kind, ReadErr>
-    ensures modelled { ReadsPart (line_by kind_line) (S.held shelf.old) lines.old lines.new result }
-    ensures file { KeepsFile lines.old lines.new }
-    ensures shelf { OnlyReads S.held S.Shelf.faults ReadErr.Failed result shelf.old shelf.new }
+    ensures reads { Reads (line_by kind_line) S.held S.Shelf.faults
+        lines.old lines.new shelf.old shelf.new result }
 {
     lines.read_text(shelf)?;
     let kind = lines.found(kind_of(lines.text()));

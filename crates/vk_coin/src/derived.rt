@@ -5,7 +5,7 @@ ghost use Rattle.std.specs.List.{flat_map};
 ghost use Rattle.vk_residue.specs.Limits.{IsLaneCount};
 ghost use Rattle.vk_io.specs.Reads.{OnlyReads};
 ghost use Rattle.vk_lines.specs.Gives.{Gives};
-ghost use Rattle.vk_lines.specs.Lines.{ReadsPart};
+ghost use Rattle.vk_lines.specs.Lines.{Reads};
 ghost use Rattle.vk_board.specs.Fronts.{IsFront, front_text};
 ghost use Rattle.vk_board.specs.Texts.{lane_text, seal_lines_text};
 ghost use Rattle.vk_report.specs.Bits.{leading_bits};
@@ -125,11 +125,10 @@ fn hash_lanes<S: Shelf>(
 ) -> Result<(), ReadErr>
     requires wires { wires ≡ (auction_shape front.now.head).wires }
     requires rows { rows ≡ (auction_shape front.now.head).rows }
-    ensures modelled { ReadsPart (lanes_passed (report_with front.now)) (S.held shelf.old)
-        lines.old lines.new result }
+    ensures reads { Reads (lanes_passed (report_with front.now)) S.held S.Shelf.faults
+        lines.old lines.new shelf.old shelf.new result }
     ensures hashed { OnOk result (HashesLanes (S.held shelf.old) front.now.head.lanes
         (auction_shape front.now.head) lines.old lines.new hasher.old hasher.new) }
-    ensures shelf { OnlyReads S.held S.Shelf.faults ReadErr.Failed result shelf.old shelf.new }
 {
     for index in 0..front.head.lanes {
         let lane = read_lane(alloc, shelf, lines, index + 1, wires, rows)?;

@@ -3,8 +3,7 @@ ghost use Rattle.std.specs.List.{All};
 ghost use Rattle.vk_residue.specs.Limits.{IsLaneCount};
 ghost use Rattle.vk_commit.specs.Values.{AreBytes};
 ghost use Rattle.vk_lines.specs.Forms.{AnswersWhole, EachAfter};
-ghost use Rattle.vk_lines.specs.Lines.{KeepsFile, OnlyReads, ReadsPart, line_by};
-ghost use Rattle.vk_lines.specs.declared.errors.ReadErr.TheVariants.{Failed};
+ghost use Rattle.vk_lines.specs.Lines.{Reads, line_by};
 ghost use Rattle.vk_coin.specs.Coins.{IsCoin, IsShareOf, coin_text};
 ghost use Rattle.vk_coin.specs.Shares.{IsAuditor, IsShare, share_text};
 ghost use Rattle.vk_coin.specs.Reading.{coin_at, coin_with, parts_at, share_at, share_with, shares_at, show_line, shown_at};
@@ -25,10 +24,9 @@ pub fn read_share<S: Shelf>(
     shelf: &mut S,
     lines: &mut Lines,
 ) -> Result<Share, ReadErr>
+    ensures reads { Reads share_at S.held S.Shelf.faults
+        lines.old lines.new shelf.old shelf.new result }
     ensures right { IfOk result IsShare }
-    ensures shelf { OnlyReads S.held S.Shelf.faults ReadErr.Failed result shelf.old shelf.new }
-    ensures file { KeepsFile lines.old lines.new }
-    ensures modelled { ReadsPart share_at (S.held shelf.old) lines.old lines.new result }
     ensures answers { AnswersWhole IsShare share_text share_table (S.held shelf.old) lines.old
         result }
 {
@@ -39,10 +37,9 @@ pub fn read_share<S: Shelf>(
 /// Reads the lines of a share in turn.
 #[tactic(auto, unfolding(crate::specs::Reading::share_at))]
 fn share_read<S: Shelf>(alloc: Global, shelf: &mut S, lines: &mut Lines) -> Result<Share, ReadErr>
+    ensures reads { Reads share_at S.held S.Shelf.faults
+        lines.old lines.new shelf.old shelf.new result }
     ensures right { IfOk result IsShare }
-    ensures modelled { ReadsPart share_at (S.held shelf.old) lines.old lines.new result }
-    ensures shelf { OnlyReads S.held S.Shelf.faults ReadErr.Failed result shelf.old shelf.new }
-    ensures file { KeepsFile lines.old lines.new }
 {
     lines.read_fixed(shelf, b"vickrey-share 1")?;
     let auction = lines.read_id(shelf, b"auction")?;
@@ -55,10 +52,9 @@ fn share_read<S: Shelf>(alloc: Global, shelf: &mut S, lines: &mut Lines) -> Resu
 /// Reads the line that shows a share.
 #[tactic(auto, unfolding(vk_lines::specs::Lines::line_by))]
 fn read_show<S: Shelf>(alloc: Global, shelf: &mut S, lines: &mut Lines) -> Result<Show, ReadErr>
-    ensures modelled { ReadsPart (line_by show_line) (S.held shelf.old) lines.old lines.new result }
+    ensures reads { Reads (line_by show_line) S.held S.Shelf.faults
+        lines.old lines.new shelf.old shelf.new result }
     ensures bits { IfOk result (λ show. IsLaneCount (length show.bits)) }
-    ensures shelf { OnlyReads S.held S.Shelf.faults ReadErr.Failed result shelf.old shelf.new }
-    ensures file { KeepsFile lines.old lines.new }
 {
     lines.read_text(shelf)?;
     let value = show_line(alloc, lines.text())?;
@@ -79,11 +75,10 @@ fn share_of(auction: &[u8; 16], auditor: u16, show: Show) -> Share
 /// Reads a coin's file whole. Malformed carries the number of the first line that isn't what its
 /// place demands.
 pub fn read_coin<S: Shelf>(alloc: Global, shelf: &mut S, lines: &mut Lines) -> Result<Coin, ReadErr>
+    ensures reads { Reads coin_at S.held S.Shelf.faults
+        lines.old lines.new shelf.old shelf.new result }
     ensures right { IfOk result IsCoin }
-    ensures modelled { ReadsPart coin_at (S.held shelf.old) lines.old lines.new result }
     ensures answers { AnswersWhole IsCoin coin_text coin_table (S.held shelf.old) lines.old result }
-    ensures shelf { OnlyReads S.held S.Shelf.faults ReadErr.Failed result shelf.old shelf.new }
-    ensures file { KeepsFile lines.old lines.new }
 {
     let coin = coin_read(alloc, shelf, lines);
     coin
@@ -92,9 +87,8 @@ pub fn read_coin<S: Shelf>(alloc: Global, shelf: &mut S, lines: &mut Lines) -> R
 /// Reads the lines of a coin in turn.
 #[tactic(auto, unfolding(crate::specs::Reading::coin_at))]
 fn coin_read<S: Shelf>(alloc: Global, shelf: &mut S, lines: &mut Lines) -> Result<Coin, ReadErr>
-    ensures shelf { OnlyReads S.held S.Shelf.faults ReadErr.Failed result shelf.old shelf.new }
-    ensures file { KeepsFile lines.old lines.new }
-    ensures modelled { ReadsPart coin_at (S.held shelf.old) lines.old lines.new result }
+    ensures reads { Reads coin_at S.held S.Shelf.faults
+        lines.old lines.new shelf.old shelf.new result }
     ensures right { IfOk result IsCoin }
 {
     lines.read_fixed(shelf, b"vickrey-coin 1")?;
@@ -137,11 +131,10 @@ fn read_parts<S: Shelf>(
     auditors: u32,
 ) -> Result<Seq<[u8; 32]>, ReadErr>
     requires few { auditors ≤ 16 }
-    ensures modelled { ReadsPart (parts_at auditors) (S.held shelf.old) lines.old lines.new result }
+    ensures reads { Reads (parts_at auditors) S.held S.Shelf.faults
+        lines.old lines.new shelf.old shelf.new result }
     ensures count { IfOk result (λ parts. length parts ≡ auditors) }
     ensures right { IfOk result (All (AreBytes 32)) }
-    ensures shelf { OnlyReads S.held S.Shelf.faults ReadErr.Failed result shelf.old shelf.new }
-    ensures file { KeepsFile lines.old lines.new }
 {
     let parts = read_many(alloc, shelf, lines, &PartLine, auditors)?;
     Ok(parts)
@@ -180,13 +173,11 @@ fn read_shares<S: Shelf>(
     bits: u32,
 ) -> Result<Seq<Share>, ReadErr>
     requires few { auditors ≤ 16 }
-    ensures modelled { ReadsPart (shares_at auction.now bits auditors) (S.held shelf.old) lines.old
-        lines.new result }
+    ensures reads { Reads (shares_at auction.now bits auditors) S.held S.Shelf.faults
+        lines.old lines.new shelf.old shelf.new result }
     ensures count { IfOk result (λ shares. length shares ≡ auditors) }
     ensures right { IfOk result
         (EachAfter (λ before. IsShareOf auction.now bits (length before + 1)) []) }
-    ensures shelf { OnlyReads S.held S.Shelf.faults ReadErr.Failed result shelf.old shelf.new }
-    ensures file { KeepsFile lines.old lines.new }
 {
     let mut shares = Seq::new(alloc);
     for index in 0..auditors {
@@ -207,11 +198,9 @@ fn read_shown<S: Shelf>(
     bits: u32,
     auditor: u16,
 ) -> Result<Share, ReadErr>
-    ensures modelled { ReadsPart (shown_at auction.now bits auditor) (S.held shelf.old) lines.old
-        lines.new result }
+    ensures reads { Reads (shown_at auction.now bits auditor) S.held S.Shelf.faults
+        lines.old lines.new shelf.old shelf.new result }
     ensures right { IfOk result (IsShareOf auction.now bits auditor) }
-    ensures shelf { OnlyReads S.held S.Shelf.faults ReadErr.Failed result shelf.old shelf.new }
-    ensures file { KeepsFile lines.old lines.new }
 {
     lines.read_text(shelf)?;
     let value = shown_line(alloc, bits, auditor, lines.text())?;

@@ -4,7 +4,7 @@ use Rattle.std.specs.List.{position_or_len}
 use Rattle.std.specs.FinMap.{get}
 use Rattle.vk_residue.specs.Steps.{◌>>=◌}
 use Rattle.vk_io.specs.declared.errors.OutsideErr.{OutsideErr}
-use Rattle.vk_io.specs.Faults.{told_as}
+use Rattle.vk_io.specs.Faults.{Causes, told_as}
 use Rattle.vk_io.specs.Files.{Files, bytes_of, part_of}
 use Rattle.vk_lines.specs.declared.errors.ReadErr.{ReadErr}
 use Rattle.vk_lines.specs.declared.errors.ReadErr.TheVariants.{Malformed, Failed, NoMemory}
@@ -162,6 +162,25 @@ abbrev pub ReadsPart : {X : Type 0} → (Rest → Result (X × Rest) ℕ) → Op
 ReadsPart read held old new result =
     IfSome held (λ files. GivesReading (λ x. x) result (rest_of new files)
     (read (rest_of old files)))
+
+-- what every reader of a part promises: over files that are modelled the part is read as its
+-- definition says, the reader stays with its file, and the shelf is only read
+pub record Reads {X S : Type 0} (read : Rest → Result (X × Rest) ℕ) (held : S → Option Files)
+    (faults : S → ℕ) (old new : LinesValue) (before after : S) (result : Result X ReadErr)
+    : Type 0 where
+  pub modelled : ReadsPart read (held before) old new result
+  pub file : KeepsFile old new
+  pub shelf : OnlyReads held faults Failed result before after
+
+-- what a reader that takes no memory promises besides: only the shelf answers want of it, and each
+-- such answer is counted
+pub record ReadsFreely {X S : Type 0} (read : Rest → Result (X × Rest) ℕ)
+    (held : S → Option Files) (faults wanted : S → ℕ) (old new : LinesValue) (before after : S)
+    (result : Result X ReadErr) : Type 0 where
+  pub modelled : ReadsPart read (held before) old new result
+  pub file : KeepsFile old new
+  pub shelf : OnlyReads held faults Failed result before after
+  pub wants : Causes NoMemory result (wanted before) (wanted after)
 
 -- the value of a line, or the line's number where it has none
 abbrev pub value_at : {X : Type 0} → Option X → Rest → Result (X × Rest) ℕ

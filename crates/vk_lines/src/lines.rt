@@ -6,7 +6,7 @@ ghost use Rattle.vk_io.specs.Files.{Files, bytes_of, part_of};
 ghost use Rattle.vk_io.specs.declared.errors.OutsideErr.{OutsideErr};
 ghost use Rattle.vk_lines.specs.Tokens.{word_of, number_line, id_line};
 ghost use Rattle.vk_lines.specs.Buffers.{HasLooked, after_step};
-ghost use Rattle.vk_lines.specs.Lines.{Starts, KeepsFile, IsBefore, IsBegun, IsBegunBy, refusal_of, GivesReading, ReadsPart, IsNext, LinesValue, OnlyReads, line_by, text_at, rest_of, unread, feed_at, step_by, step_of, none_left, value_at, is_text, is_end, answer_by, end_at};
+ghost use Rattle.vk_lines.specs.Lines.{Starts, KeepsFile, IsBefore, IsBegun, IsBegunBy, refusal_of, GivesReading, Reads, ReadsFreely, IsNext, LinesValue, OnlyReads, line_by, text_at, rest_of, unread, feed_at, step_by, step_of, none_left, value_at, is_text, is_end, answer_by, end_at};
 
 use crate::buffer::{Buffer, MOST_LINE};
 use crate::cutting::read_word;
@@ -228,11 +228,8 @@ impl Lines {
     /// line that isn't so.
     #[tactic(auto, unfolding(crate::specs::Lines::end_at, crate::specs::Lines::line_by))]
     pub fn read_end<S: Shelf>(&mut self, shelf: &mut S) -> Result<(), ReadErr>
-        ensures modelled { ReadsPart end_at (S.held shelf.old) self.old self.new result }
-        ensures file { KeepsFile self.old self.new }
-        ensures shelf { OnlyReads S.held S.Shelf.faults ReadErr.Failed result shelf.old shelf.new }
-        ensures wants { Causes ReadErr.NoMemory result (S.Shelf.wants shelf.old)
-            (S.Shelf.wants shelf.new) }
+        ensures reads { ReadsFreely end_at S.held S.Shelf.faults S.Shelf.wants
+            self.old self.new shelf.old shelf.new result }
     {
         self.read_text(shelf)?;
         self.found(read_word(self.text(), b"end"))?;
@@ -245,12 +242,8 @@ impl Lines {
     /// Reads a line that is this text. Malformed, with its number, where the next line is another.
     #[tactic(auto, unfolding(crate::specs::Lines::line_by))]
     pub fn read_fixed<S: Shelf>(&mut self, shelf: &mut S, line: &[u8]) -> Result<(), ReadErr>
-        ensures modelled { ReadsPart (line_by (word_of line.now)) (S.held shelf.old) self.old
-            self.new result }
-        ensures file { KeepsFile self.old self.new }
-        ensures shelf { OnlyReads S.held S.Shelf.faults ReadErr.Failed result shelf.old shelf.new }
-        ensures wants { Causes ReadErr.NoMemory result (S.Shelf.wants shelf.old)
-            (S.Shelf.wants shelf.new) }
+        ensures reads { ReadsFreely (line_by (word_of line.now)) S.held S.Shelf.faults S.Shelf.wants
+            self.old self.new shelf.old shelf.new result }
     {
         self.read_text(shelf)?;
         let value = self.found(read_word(self.text(), line));
@@ -267,13 +260,9 @@ impl Lines {
         least: u64,
         most: u64,
     ) -> Result<u64, ReadErr>
-        ensures modelled { ReadsPart (line_by (number_line word.now least most)) (S.held shelf.old)
-            self.old self.new result }
-        ensures file { KeepsFile self.old self.new }
+        ensures reads { ReadsFreely (line_by (number_line word.now least most))
+            S.held S.Shelf.faults S.Shelf.wants self.old self.new shelf.old shelf.new result }
         ensures within { IfOk result (λ number. (least ≤ number) × (number ≤ most)) }
-        ensures shelf { OnlyReads S.held S.Shelf.faults ReadErr.Failed result shelf.old shelf.new }
-        ensures wants { Causes ReadErr.NoMemory result (S.Shelf.wants shelf.old)
-            (S.Shelf.wants shelf.new) }
     {
         self.read_text(shelf)?;
         let value = self.found(read_number(self.text(), word, least, most));
@@ -284,13 +273,9 @@ impl Lines {
     /// another.
     #[tactic(auto, unfolding(crate::specs::Lines::line_by))]
     pub fn read_id<S: Shelf>(&mut self, shelf: &mut S, word: &[u8]) -> Result<[u8; 16], ReadErr>
-        ensures modelled { ReadsPart (line_by (id_line word.now)) (S.held shelf.old) self.old
-            self.new result }
-        ensures file { KeepsFile self.old self.new }
+        ensures reads { ReadsFreely (line_by (id_line word.now)) S.held S.Shelf.faults S.Shelf.wants
+            self.old self.new shelf.old shelf.new result }
         ensures bytes { IfOk result (λ id. (length id ≡ 16) × IsBytes id) }
-        ensures shelf { OnlyReads S.held S.Shelf.faults ReadErr.Failed result shelf.old shelf.new }
-        ensures wants { Causes ReadErr.NoMemory result (S.Shelf.wants shelf.old)
-            (S.Shelf.wants shelf.new) }
     {
         self.read_text(shelf)?;
         let value = self.found(read_id(self.text(), word));

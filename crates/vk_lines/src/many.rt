@@ -1,10 +1,9 @@
 //! So many lines of a kind, one after another.
 
 ghost use Rattle.std.specs.Prelude.{◌≡◌, ◌<◌, ◌≤◌, ◌⊎◌, length, IfOk, IsErrOf};
-ghost use Rattle.vk_io.specs.Faults.{Causes, MayCause, Rose};
+ghost use Rattle.vk_io.specs.Faults.{MayCause, Rose};
 ghost use Rattle.vk_lines.specs.Forms.{EachNumbered, many_at};
-ghost use Rattle.vk_lines.specs.Lines.{KeepsFile, OnlyReads, ReadsPart, line_by};
-ghost use Rattle.vk_lines.specs.declared.errors.ReadErr.TheVariants.{Failed};
+ghost use Rattle.vk_lines.specs.Lines.{Reads, ReadsFreely, line_by};
 
 use crate::errors::ReadErr;
 use crate::lines::Lines;
@@ -45,13 +44,10 @@ pub fn read_many<S: Shelf, K: LineKind>(
     count: u32,
 ) -> Result<Seq<K::Item>, ReadErr>
     requires { count ≤ K.most kind.now }
-    ensures modelled { ReadsPart
-        (many_at count (λ before. line_by (K.item_of kind.now (length before)))) (S.held shelf.old)
-        lines.old lines.new result }
+    ensures reads { Reads (many_at count (λ before. line_by (K.item_of kind.now (length before))))
+        S.held S.Shelf.faults lines.old lines.new shelf.old shelf.new result }
     ensures number { IfOk result (λ items. length items ≡ count) }
     ensures each { IfOk result (EachNumbered (K.is_item kind.now)) }
-    ensures file { KeepsFile lines.old lines.new }
-    ensures shelf { OnlyReads S.held S.Shelf.faults ReadErr.Failed result shelf.old shelf.new }
     ensures wants { MayCause ReadErr.NoMemory result (S.Shelf.wants shelf.old)
         (S.Shelf.wants shelf.new) }
     ensures first { IsErrOf result ReadErr.NoMemory
@@ -74,13 +70,9 @@ pub fn read_item<S: Shelf, K: LineKind>(
     number: u32,
 ) -> Result<K::Item, ReadErr>
     requires { number < K.most kind.now }
-    ensures modelled { ReadsPart (line_by (K.item_of kind.now number)) (S.held shelf.old) lines.old
-        lines.new result }
+    ensures reads { ReadsFreely (line_by (K.item_of kind.now number))
+        S.held S.Shelf.faults S.Shelf.wants lines.old lines.new shelf.old shelf.new result }
     ensures right { IfOk result (K.is_item kind.now number) }
-    ensures file { KeepsFile lines.old lines.new }
-    ensures shelf { OnlyReads S.held S.Shelf.faults ReadErr.Failed result shelf.old shelf.new }
-    ensures wants { Causes ReadErr.NoMemory result (S.Shelf.wants shelf.old)
-        (S.Shelf.wants shelf.new) }
 {
     lines.read_text(shelf)?;
     let item = lines.found(kind.read(number, lines.text()));

@@ -1,7 +1,6 @@
 ghost use Rattle.std.specs.Prelude.{length, ◌≡◌, ◌<◌, ◌≤◌, slice_index_or, IfSome, IfOk};
 ghost use Rattle.vk_lines.specs.Forms.{AnswersWhole};
-ghost use Rattle.vk_lines.specs.Lines.{KeepsFile, OnlyReads, ReadsPart, line_by};
-ghost use Rattle.vk_lines.specs.declared.errors.ReadErr.TheVariants.{Failed};
+ghost use Rattle.vk_lines.specs.Lines.{Reads, line_by};
 ghost use Rattle.vk_plan.specs.declared.wire.WireKind.TheVariants.{Split};
 ghost use Rattle.vk_reply.specs.Values.{AreShown, IsChallenge, IsShown};
 ghost use Rattle.vk_reply.specs.Texts.{challenge_text};
@@ -27,12 +26,11 @@ pub fn read_challenge<S: Shelf>(
     shelf: &mut S,
     lines: &mut Lines,
 ) -> Result<Challenge, ReadErr>
-    ensures modelled { ReadsPart challenge_at (S.held shelf.old) lines.old lines.new result }
+    ensures reads { Reads challenge_at S.held S.Shelf.faults
+        lines.old lines.new shelf.old shelf.new result }
     ensures answers { AnswersWhole IsChallenge challenge_text challenge_table (S.held shelf.old)
         lines.old result }
     ensures right { IfOk result IsChallenge }
-    ensures file { KeepsFile lines.old lines.new }
-    ensures shelf { OnlyReads S.held S.Shelf.faults ReadErr.Failed result shelf.old shelf.new }
 {
     let challenge = challenge_read(alloc, shelf, lines);
     challenge
@@ -45,10 +43,9 @@ fn challenge_read<S: Shelf>(
     shelf: &mut S,
     lines: &mut Lines,
 ) -> Result<Challenge, ReadErr>
-    ensures modelled { ReadsPart challenge_at (S.held shelf.old) lines.old lines.new result }
+    ensures reads { Reads challenge_at S.held S.Shelf.faults
+        lines.old lines.new shelf.old shelf.new result }
     ensures right { IfOk result IsChallenge }
-    ensures file { KeepsFile lines.old lines.new }
-    ensures shelf { OnlyReads S.held S.Shelf.faults ReadErr.Failed result shelf.old shelf.new }
 {
     lines.read_fixed(shelf, b"vickrey-challenge 1")?;
     let bits = read_bits(alloc, shelf, lines)?;
@@ -73,11 +70,10 @@ fn read_bits<S: Shelf>(
     shelf: &mut S,
     lines: &mut Lines,
 ) -> Result<Seq<bool>, ReadErr>
-    ensures modelled { ReadsPart (line_by bits_line) (S.held shelf.old) lines.old lines.new result }
+    ensures reads { Reads (line_by bits_line) S.held S.Shelf.faults
+        lines.old lines.new shelf.old shelf.new result }
     ensures some_bit { IfOk result (λ bits. 1 ≤ length bits) }
     ensures few_bits { IfOk result (λ bits. length bits ≤ 64) }
-    ensures file { KeepsFile lines.old lines.new }
-    ensures shelf { OnlyReads S.held S.Shelf.faults ReadErr.Failed result shelf.old shelf.new }
 {
     lines.read_text(shelf)?;
     let value = bits_line(alloc, lines.text())?;
@@ -89,10 +85,9 @@ fn read_bits<S: Shelf>(
 /// carries the number of the first line that isn't what its place demands.
 #[tactic(auto, unfolding(crate::specs::Reading::reply_head_at))]
 pub fn read_reply_head<S: Shelf>(shelf: &mut S, lines: &mut Lines) -> Result<u32, ReadErr>
-    ensures modelled { ReadsPart reply_head_at (S.held shelf.old) lines.old lines.new result }
+    ensures reads { Reads reply_head_at S.held S.Shelf.faults
+        lines.old lines.new shelf.old shelf.new result }
     ensures right { IfOk result (λ lanes. (1 ≤ lanes) × (lanes ≤ 64)) }
-    ensures file { KeepsFile lines.old lines.new }
-    ensures shelf { OnlyReads S.held S.Shelf.faults ReadErr.Failed result shelf.old shelf.new }
 {
     lines.read_fixed(shelf, b"vickrey-reply 1")?;
     let count = lines.read_number(shelf, b"lanes", 1, 64)?;
@@ -111,11 +106,9 @@ pub fn read_reply_lane<S: Shelf>(
     plan: &Plan,
     bit: bool,
 ) -> Result<Seq<Shown>, ReadErr>
-    ensures modelled { ReadsPart (reply_lane_at lane plan.now.kinds bit) (S.held shelf.old)
-        lines.old lines.new result }
+    ensures reads { Reads (reply_lane_at lane plan.now.kinds bit) S.held S.Shelf.faults
+        lines.old lines.new shelf.old shelf.new result }
     ensures right { IfOk result (AreShown plan.now.kinds bit) }
-    ensures file { KeepsFile lines.old lines.new }
-    ensures shelf { OnlyReads S.held S.Shelf.faults ReadErr.Failed result shelf.old shelf.new }
 {
     lines.read_number(shelf, b"lane", u64::from(lane), u64::from(lane))?;
     let shown = read_wires(alloc, shelf, lines, plan, bit)?;
@@ -130,11 +123,9 @@ fn read_wires<S: Shelf>(
     plan: &Plan,
     bit: bool,
 ) -> Result<Seq<Shown>, ReadErr>
-    ensures modelled { ReadsPart (wires_at plan.now.kinds bit) (S.held shelf.old) lines.old
-        lines.new result }
+    ensures reads { Reads (wires_at plan.now.kinds bit) S.held S.Shelf.faults
+        lines.old lines.new shelf.old shelf.new result }
     ensures right { IfOk result (AreShown plan.now.kinds bit) }
-    ensures file { KeepsFile lines.old lines.new }
-    ensures shelf { OnlyReads S.held S.Shelf.faults ReadErr.Failed result shelf.old shelf.new }
 {
     let shown = read_many(alloc, shelf, lines, &WireLine { plan, bit }, plan.wires());
     shown

@@ -1,5 +1,5 @@
 ghost use Rattle.std.specs.Prelude.{◌≡◌, IfSome, IfOk, Ok};
-ghost use Rattle.vk_lines.specs.Lines.{OnlyReads, ReadsPart};
+ghost use Rattle.vk_lines.specs.Lines.{OnlyReads, Reads};
 ghost use Rattle.vk_board.specs.Fronts.{IsFront};
 ghost use Rattle.vk_lines.specs.Gives.{Gives};
 ghost use Rattle.vk_report.specs.Reports.{IsReport, fault_of, report_with, lanes_passed, report_at, report_on};
@@ -35,9 +35,8 @@ fn read_lanes<S: Shelf>(
     report: &Report,
 ) -> Result<(), ReadErr>
     requires { IsReport report.now }
-    ensures modelled { ReadsPart (lanes_passed report.now) (S.held shelf.old) lines.old lines.new
-        result }
-    ensures shelf { OnlyReads S.held S.Shelf.faults ReadErr.Failed result shelf.old shelf.new }
+    ensures reads { Reads (lanes_passed report.now) S.held S.Shelf.faults
+        lines.old lines.new shelf.old shelf.new result }
 {
     let wires = report.wires - report.head.seals;
     for index in 0..report.head.lanes {

@@ -4,8 +4,7 @@ ghost use Rattle.vk_commit.specs.Values.{AreBytes};
 ghost use Rattle.vk_wire.specs.Values.{IsCom};
 ghost use Rattle.vk_seal.specs.Values.{IsSeal, IsSecret, IsXTape};
 ghost use Rattle.vk_lines.specs.Forms.{AnswersWhole, EachNumbered};
-ghost use Rattle.vk_lines.specs.Lines.{KeepsFile, OnlyReads, ReadsPart};
-ghost use Rattle.vk_lines.specs.declared.errors.ReadErr.TheVariants.{Failed};
+ghost use Rattle.vk_lines.specs.Lines.{Reads};
 ghost use Rattle.vk_seal.specs.Texts.{seal_text, secret_text};
 ghost use Rattle.vk_seal.specs.Tables.{seal_table, secret_table};
 ghost use Rattle.vk_seal.specs.Reading.{com_at, seat_at, lanes_at, seal_at, secret_at};
@@ -27,11 +26,10 @@ const MOST_BID: u64 = (1 << 40) - 1;
 /// Reads a seal's file whole. Malformed carries the number of the first line that isn't what its
 /// place demands.
 pub fn read_seal<S: Shelf>(alloc: Global, shelf: &mut S, lines: &mut Lines) -> Result<Seal, ReadErr>
-    ensures modelled { ReadsPart seal_at (S.held shelf.old) lines.old lines.new result }
+    ensures reads { Reads seal_at S.held S.Shelf.faults
+        lines.old lines.new shelf.old shelf.new result }
     ensures answers { AnswersWhole IsSeal seal_text seal_table (S.held shelf.old) lines.old result }
     ensures right { IfOk result IsSeal }
-    ensures file { KeepsFile lines.old lines.new }
-    ensures shelf { OnlyReads S.held S.Shelf.faults ReadErr.Failed result shelf.old shelf.new }
 {
     let seal = seal_read(alloc, shelf, lines);
     seal
@@ -40,10 +38,9 @@ pub fn read_seal<S: Shelf>(alloc: Global, shelf: &mut S, lines: &mut Lines) -> R
 /// Reads the lines of a seal in turn.
 #[tactic(auto, unfolding(crate::specs::Reading::seal_at))]
 fn seal_read<S: Shelf>(alloc: Global, shelf: &mut S, lines: &mut Lines) -> Result<Seal, ReadErr>
-    ensures modelled { ReadsPart seal_at (S.held shelf.old) lines.old lines.new result }
+    ensures reads { Reads seal_at S.held S.Shelf.faults
+        lines.old lines.new shelf.old shelf.new result }
     ensures right { IfOk result IsSeal }
-    ensures file { KeepsFile lines.old lines.new }
-    ensures shelf { OnlyReads S.held S.Shelf.faults ReadErr.Failed result shelf.old shelf.new }
 {
     let (auction, seat) = read_seat(shelf, lines, b"vickrey-seal 1")?;
     let lanes = read_coms(alloc, shelf, lines)?;
@@ -56,12 +53,11 @@ fn read_coms<S: Shelf>(
     shelf: &mut S,
     lines: &mut Lines,
 ) -> Result<Seq<WireCom>, ReadErr>
-    ensures modelled { ReadsPart (lanes_at com_at) (S.held shelf.old) lines.old lines.new result }
+    ensures reads { Reads (lanes_at com_at) S.held S.Shelf.faults
+        lines.old lines.new shelf.old shelf.new result }
     ensures some { IfOk result (λ lanes. 1 ≤ length lanes) }
     ensures few { IfOk result (λ lanes. length lanes ≤ 64) }
     ensures digests { IfOk result (All IsCom) }
-    ensures file { KeepsFile lines.old lines.new }
-    ensures shelf { OnlyReads S.held S.Shelf.faults ReadErr.Failed result shelf.old shelf.new }
 {
     let word = b"x";
     let made = PhantomData;
@@ -94,12 +90,10 @@ fn read_seat<S: Shelf>(
     lines: &mut Lines,
     heading: &[u8],
 ) -> Result<([u8; 16], u16), ReadErr>
-    ensures modelled { ReadsPart (seat_at heading.now) (S.held shelf.old) lines.old lines.new
-        result }
+    ensures reads { Reads (seat_at heading.now) S.held S.Shelf.faults
+        lines.old lines.new shelf.old shelf.new result }
     ensures id { IfOk result (λ place. AreBytes 16 place.0) }
     ensures some_seat { IfOk result (λ place. 1 ≤ place.1) }
-    ensures file { KeepsFile lines.old lines.new }
-    ensures shelf { OnlyReads S.held S.Shelf.faults ReadErr.Failed result shelf.old shelf.new }
 {
     lines.read_fixed(shelf, heading)?;
     let auction = lines.read_id(shelf, b"auction")?;
@@ -116,13 +110,11 @@ fn read_lanes<S: Shelf, K: LineKind>(
     kind: &K,
 ) -> Result<Seq<K::Item>, ReadErr>
     requires { 64 ≤ K.most kind.now }
-    ensures modelled { ReadsPart (lanes_at (K.item_of kind.now)) (S.held shelf.old) lines.old
-        lines.new result }
+    ensures reads { Reads (lanes_at (K.item_of kind.now)) S.held S.Shelf.faults
+        lines.old lines.new shelf.old shelf.new result }
     ensures some { IfOk result (λ lanes. 1 ≤ length lanes) }
     ensures few { IfOk result (λ lanes. length lanes ≤ 64) }
     ensures each { IfOk result (EachNumbered (K.is_item kind.now)) }
-    ensures file { KeepsFile lines.old lines.new }
-    ensures shelf { OnlyReads S.held S.Shelf.faults ReadErr.Failed result shelf.old shelf.new }
 {
     let count = lines.read_number(shelf, b"lanes", 1, 64)?;
     let lanes = read_many(alloc, shelf, lines, kind, count as u32)?;
@@ -137,12 +129,11 @@ pub fn read_secret<S: Shelf>(
     shelf: &mut S,
     lines: &mut Lines,
 ) -> Result<Secret, ReadErr>
-    ensures modelled { ReadsPart secret_at (S.held shelf.old) lines.old lines.new result }
+    ensures reads { Reads secret_at S.held S.Shelf.faults
+        lines.old lines.new shelf.old shelf.new result }
     ensures answers { AnswersWhole IsSecret secret_text secret_table (S.held shelf.old) lines.old
         result }
     ensures right { IfOk result IsSecret }
-    ensures file { KeepsFile lines.old lines.new }
-    ensures shelf { OnlyReads S.held S.Shelf.faults ReadErr.Failed result shelf.old shelf.new }
 {
     let secret = secret_read(alloc, shelf, lines);
     secret
@@ -151,10 +142,9 @@ pub fn read_secret<S: Shelf>(
 /// Reads the lines of a secret in turn.
 #[tactic(auto, unfolding(crate::specs::Reading::secret_at))]
 fn secret_read<S: Shelf>(alloc: Global, shelf: &mut S, lines: &mut Lines) -> Result<Secret, ReadErr>
-    ensures modelled { ReadsPart secret_at (S.held shelf.old) lines.old lines.new result }
+    ensures reads { Reads secret_at S.held S.Shelf.faults
+        lines.old lines.new shelf.old shelf.new result }
     ensures right { IfOk result IsSecret }
-    ensures file { KeepsFile lines.old lines.new }
-    ensures shelf { OnlyReads S.held S.Shelf.faults ReadErr.Failed result shelf.old shelf.new }
 {
     let (auction, seat) = read_seat(shelf, lines, b"vickrey-secret 1")?;
     let bid = lines.read_number(shelf, b"bid", 0, MOST_BID)?;

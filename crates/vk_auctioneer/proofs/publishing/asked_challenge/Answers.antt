@@ -8,4 +8,4 @@ returns-clause-modelled g c =
     (g.S.Shelf.held c.begin_named.new.shelf) c.read_challenge-challenge.new.lines
     c.read_challenge-challenge.result c.named_value-challenge.result
     c.in_ok-lines.ensures.shelf.held c.in_ok-lines.ensures.modelled
-    c.read_challenge-challenge.ensures.modelled c.named_value-challenge.ensures.modelled
+    c.read_challenge-challenge.ensures.reads.modelled c.named_value-challenge.ensures.modelled

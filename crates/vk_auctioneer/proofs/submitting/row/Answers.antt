@@ -9,7 +9,7 @@ returns-in_err-seal-clause-modelled g c =
     c.from_residual-in_err-seal.ensures.1 in
     rw (p.1 ∙ ap Err p.2) (seal_refused _ _ _ _ _ _ _ _ _ _ c.in_ok-seal_lines.ensures.shelf.held
     c.in_ok-secret_lines.ensures.shelf.held c.in_ok-seal_lines.ensures.modelled
-    c.in_ok-secret_lines.ensures.modelled c.read_seal-read.ensures.modelled
+    c.in_ok-secret_lines.ensures.modelled c.read_seal-read.ensures.reads.modelled
     c.in_err-seal.ensures.modelled)
 
 pub returns-in_err-secret-clause-modelled : goal.returns-in_err-secret-clause-modelled
@@ -18,7 +18,7 @@ returns-in_err-secret-clause-modelled g c =
     c.from_residual-in_err-secret.ensures.1 in
     rw (p.1 ∙ ap Err p.2) (secret_refused _ _ _ _ _ _ _ _ _ _ _ _ _ _
     c.in_ok-seal_lines.ensures.shelf.held c.in_ok-secret_lines.ensures.shelf.held
-    c.read_seal-read.ensures.shelf.held c.in_ok-seal_lines.ensures.modelled
-    c.in_ok-secret_lines.ensures.modelled c.read_seal-read.ensures.modelled
-    c.in_ok-seal.ensures.modelled c.read_secret-read.ensures.modelled
+    c.read_seal-read.ensures.reads.shelf.held c.in_ok-seal_lines.ensures.modelled
+    c.in_ok-secret_lines.ensures.modelled c.read_seal-read.ensures.reads.modelled
+    c.in_ok-seal.ensures.modelled c.read_secret-read.ensures.reads.modelled
     c.in_err-secret.ensures.modelled)

@@ -22,4 +22,4 @@ returns-clause-modelled g c =
     (λ files secret. secret_in (secret_at (rest_of c.args.lines.now files)) ≡ secret)
     (g.S.Shelf.held c.args.shelf.now) c.secret_or_fault-secret.result
     (λ files. c.secret_or_fault-secret.ensures.modelled (rest_of c.read_secret-read.new.lines files)
-    (secret_at (rest_of c.args.lines.now files))) c.read_secret-read.ensures.modelled
+    (secret_at (rest_of c.args.lines.now files))) c.read_secret-read.ensures.reads.modelled

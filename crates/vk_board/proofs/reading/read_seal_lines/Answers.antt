@@ -16,7 +16,7 @@ loop-index-preserved g c =
     let P : List SealLines → Type 0 = λ before. IfSome (g.S.Shelf.held l.shelf)
     (λ files. seal_at c.args.lanes before (rest_of l.lines files)
     ≡ Ok (c.in_ok-seal.seal, rest_of c.read_seal.new.lines files)) in
-    let step = subst P c.as_slice.ensures.value c.in_ok-seal.ensures.modelled in
+    let step = subst P c.as_slice.ensures.value c.in_ok-seal.ensures.reads.modelled in
     let R : List SealLines → Type 0 = λ before.
     IsSealAfter c.args.lanes before c.in_ok-seal.seal in
     record {
@@ -37,12 +37,12 @@ loop-index-preserved g c =
       right = rw c.in_ok-push.ensures.items
           (each_push (IsSealAfter c.args.lanes) [] l.seals.items c.in_ok-seal.seal
           l.invariant.right (subst R c.as_slice.ensures.value c.in_ok-seal.ensures.right));
-      held = c.in_ok-seal.ensures.shelf.held ∙ l.invariant.held;
-      kept = c.in_ok-seal.ensures.shelf.causes ∙ l.invariant.kept;
+      held = c.in_ok-seal.ensures.reads.shelf.held ∙ l.invariant.held;
+      kept = c.in_ok-seal.ensures.reads.shelf.causes ∙ l.invariant.kept;
       wants = c.in_ok-seal.ensures.wants ∙ l.invariant.wants;
       file = record {
-        name = c.in_ok-seal.ensures.file.name ∙ l.invariant.file.name;
-        size = c.in_ok-seal.ensures.file.size ∙ l.invariant.file.size;
+        name = c.in_ok-seal.ensures.reads.file.name ∙ l.invariant.file.name;
+        size = c.in_ok-seal.ensures.reads.file.size ∙ l.invariant.file.size;
       };
     }
 
@@ -62,17 +62,23 @@ loop-index-init g c = record {
   file = record { name = refl; size = refl };
 }
 
-pub returns-in_err-seal-clause-modelled : goal.returns-in_err-seal-clause-modelled
-returns-in_err-seal-clause-modelled g c =
+pub returns-in_err-seal-clause-reads : goal.returns-in_err-seal-clause-reads
+returns-in_err-seal-clause-reads g c =
     let l = c.loop-index in
     let P : List SealLines → Type 0 = λ before. IfSome (g.S.Shelf.held l.shelf)
     (λ files. GivesReading {T = SealLines} {X = SealLines} (λ x. x) (Err c.in_err-seal.field-0.0)
     (rest_of c.read_seal.new.lines files) (seal_at c.args.lanes before (rest_of l.lines files))) in
-    many_stop (g.S.Shelf.held c.args.shelf.now) (g.S.Shelf.held l.shelf) (seal_at c.args.lanes)
-    (λ files. many_at c.args.count (seal_at c.args.lanes) (rest_of c.args.lines.now files))
-    l.seals.items c.in_err-seal.field-0.0 _ (c.args.count - l.index) (rest_of l.lines)
-    (rest_of c.read_seal.new.lines) l.invariant.held (omega arith) (search rules)
-    l.invariant.modelled (subst P c.as_slice.ensures.value c.in_err-seal.ensures.modelled)
+    record {
+      modelled = many_stop (g.S.Shelf.held c.args.shelf.now) (g.S.Shelf.held l.shelf)
+          (seal_at c.args.lanes)
+          (λ files. many_at c.args.count (seal_at c.args.lanes) (rest_of c.args.lines.now files))
+          l.seals.items c.in_err-seal.field-0.0 _ (c.args.count - l.index) (rest_of l.lines)
+          (rest_of c.read_seal.new.lines) l.invariant.held (omega arith) (search rules)
+          l.invariant.modelled
+          (subst P c.as_slice.ensures.value c.in_err-seal.ensures.reads.modelled);
+      file = search rules;
+      shelf = search rules;
+    }
 
 pub returns-in_err-seal-clause-behind : goal.returns-in_err-seal-clause-behind
 returns-in_err-seal-clause-behind g c = λ is.

@@ -11,4 +11,4 @@ returns-in_err-named_value-clause-modelled g c =
     (g.S.Shelf.held c.begin_named.new.shelf) c.in_ok-lines.lines c.read_fixed-heading.new.self
     c.read_fixed-heading.result c.in_err-named_value.field-0.0
     c.in_ok-lines.ensures.shelf.held c.in_ok-lines.ensures.modelled
-    c.read_fixed-heading.ensures.modelled c.in_err-named_value.ensures.modelled)
+    c.read_fixed-heading.ensures.reads.modelled c.in_err-named_value.ensures.modelled)

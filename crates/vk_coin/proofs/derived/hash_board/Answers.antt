@@ -12,11 +12,11 @@ returns-clause-hashed g c =
     c.hash_lanes.new.hasher c.update-2.new.self c.hash_lanes.result c.read_end.result
     c.in_ok-front.ensures.right c.in_ok-lines.ensures.shelf.held
     (c.in_ok-front.ensures.shelf.held ∙ c.in_ok-lines.ensures.shelf.held)
-    (c.hash_lanes.ensures.shelf.held ∙ c.in_ok-front.ensures.shelf.held
+    (c.hash_lanes.ensures.reads.shelf.held ∙ c.in_ok-front.ensures.shelf.held
     ∙ c.in_ok-lines.ensures.shelf.held)
     c.in_ok-lines.ensures.modelled c.in_ok-front.ensures.modelled
     c.in_ok-map_err.ensures.variant c.hash_lanes.ensures.hashed
-    c.in_ok-map_err-2.ensures.variant c.read_end.ensures.modelled
+    c.in_ok-map_err-2.ensures.variant c.read_end.ensures.reads.modelled
     (subst (λ text. Hashes text c.args.hasher.now c.update.new.self)
     (c.as_slice.ensures.value ∙ c.in-Ok.ensures) c.update.ensures)
     (subst (λ text. Hashes text c.hash_lanes.new.hasher c.update-2.new.self)

@@ -1,5 +1,5 @@
 use Rattle.std.proofs.Common.{◌≡◌, ◌-◌}
-use Rattle.vk_lines.specs.Lines.{rest_of}
+use Rattle.vk_lines.specs.Lines.{KeepsFile, rest_of}
 use Rattle.vk_board.specs.Reading.{lane_lines_at}
 use Rattle.vk_coin.proofs.Hashing.{LanesHashed, shape_by}
 use Rattle.vk_coin.proofs.derived.hash_lanes.Given as goal
@@ -12,6 +12,7 @@ invariant-loop-index g l = record {
       (λ files. lane_lines_at l.front.head.lanes (shape_by l.wires l.rows)
       (rest_of l.fn.lines files))
       l.fn.hasher l.hasher;
+  file : KeepsFile l.fn.lines l.lines;
   held : g.S.Shelf.held l.shelf ≡ g.S.Shelf.held l.fn.shelf;
   kept : g.S.Shelf.faults l.shelf ≡ g.S.Shelf.faults l.fn.shelf;
 }

@@ -9,4 +9,4 @@ pub returns-clause-answers : goal.returns-clause-answers
 returns-clause-answers g c =
     told_answers coin_table (λ x. x) coin_is_whole coin_ends (g.S.Shelf.held c.args.shelf.now)
     c.coin_read-coin.result (rest_of c.args.lines.now) (rest_of c.coin_read-coin.new.lines)
-    c.coin_read-coin.ensures.modelled
+    c.coin_read-coin.ensures.reads.modelled

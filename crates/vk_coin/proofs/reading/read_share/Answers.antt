@@ -9,4 +9,4 @@ pub returns-clause-answers : goal.returns-clause-answers
 returns-clause-answers g c =
     told_answers share_table (λ x. x) share_is_whole share_ends (g.S.Shelf.held c.args.shelf.now)
     c.share_read-share.result (rest_of c.args.lines.now) (rest_of c.share_read-share.new.lines)
-    c.share_read-share.ensures.modelled
+    c.share_read-share.ensures.reads.modelled

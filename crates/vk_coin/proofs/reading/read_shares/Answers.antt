@@ -18,22 +18,26 @@ loop-index-init g c = record {
   file = record { name = refl; size = refl };
 }
 
-pub returns-in_err-share-clause-modelled : goal.returns-in_err-share-clause-modelled
-returns-in_err-share-clause-modelled g c =
+pub returns-in_err-share-clause-reads : goal.returns-in_err-share-clause-reads
+returns-in_err-share-clause-reads g c =
     let l = c.loop-index in
-    numbered_stop (g.S.Shelf.held c.args.shelf.now) (g.S.Shelf.held l.shelf)
-    (λ n. shown_at c.args.auction.now c.args.bits (n + 1))
-    (λ files. shares_at c.args.auction.now c.args.bits c.args.auditors
-    (rest_of c.args.lines.now files))
-    l.shares c.in_err-share.field-0.0 _ c.len.result (c.args.auditors - l.index)
-    (λ files. rest_of l.lines files) (λ files. rest_of c.read_shown.new.lines files)
-    l.invariant.held (sym c.len.ensures) (omega arith) (search rules) l.invariant.modelled
-    c.in_err-share.ensures.modelled
+    record {
+      modelled = numbered_stop (g.S.Shelf.held c.args.shelf.now) (g.S.Shelf.held l.shelf)
+          (λ n. shown_at c.args.auction.now c.args.bits (n + 1))
+          (λ files. shares_at c.args.auction.now c.args.bits c.args.auditors
+          (rest_of c.args.lines.now files))
+          l.shares c.in_err-share.field-0.0 _ c.len.result (c.args.auditors - l.index)
+          (λ files. rest_of l.lines files) (λ files. rest_of c.read_shown.new.lines files)
+          l.invariant.held (sym c.len.ensures) (omega arith) (search rules) l.invariant.modelled
+          c.in_err-share.ensures.reads.modelled;
+      file = search rules;
+      shelf = search rules;
+    }
 
 pub loop-index-preserved : goal.loop-index-preserved
 loop-index-preserved g c =
     let l = c.loop-index in
-    let file = c.in_ok-share.ensures.file in
+    let file = c.in_ok-share.ensures.reads.file in
     let P : ℕ → Type 0 = λ n. IsShareOf c.args.auction.now c.args.bits (n + 1) c.in_ok-share.share
     in
     record {
@@ -45,15 +49,15 @@ loop-index-preserved g c =
           (c.args.auditors - (l.index + 1)) (λ files. rest_of l.lines files)
           (λ files. rest_of c.read_shown.new.lines files)
           l.invariant.held (sym c.len.ensures) (omega arith) c.in_ok-push.ensures.pushed
-          l.invariant.modelled c.in_ok-share.ensures.modelled;
+          l.invariant.modelled c.in_ok-share.ensures.reads.modelled;
       count = one_longer l.shares _ c.in_ok-share.share l.index l.invariant.count
           c.in_ok-push.ensures.pushed;
       right = rw c.in_ok-push.ensures.pushed
           (each_push (λ before. IsShareOf c.args.auction.now c.args.bits (length before + 1)) []
           l.shares c.in_ok-share.share l.invariant.right
           (subst P c.len.ensures c.in_ok-share.ensures.right));
-      held = c.in_ok-share.ensures.shelf.held ∙ l.invariant.held;
-      kept = c.in_ok-share.ensures.shelf.causes ∙ l.invariant.kept;
+      held = c.in_ok-share.ensures.reads.shelf.held ∙ l.invariant.held;
+      kept = c.in_ok-share.ensures.reads.shelf.causes ∙ l.invariant.kept;
       file = record {
         name = file.name ∙ l.invariant.file.name;
         size = file.size
@@ -61,12 +65,16 @@ loop-index-preserved g c =
       };
     }
 
-pub returns-clause-modelled : goal.returns-clause-modelled
-returns-clause-modelled g c =
+pub returns-clause-reads : goal.returns-clause-reads
+returns-clause-reads g c =
     let l = c.loop-index in
-    many_done (g.S.Shelf.held c.args.shelf.now)
-    (λ before. shown_at c.args.auction.now c.args.bits (length before + 1))
-    (λ files. shares_at c.args.auction.now c.args.bits c.args.auditors
-    (rest_of c.args.lines.now files))
-    l.shares (c.args.auditors - l.index) (λ files. rest_of l.lines files) (omega arith)
-    l.invariant.modelled
+    record {
+      modelled = many_done (g.S.Shelf.held c.args.shelf.now)
+          (λ before. shown_at c.args.auction.now c.args.bits (length before + 1))
+          (λ files. shares_at c.args.auction.now c.args.bits c.args.auditors
+          (rest_of c.args.lines.now files))
+          l.shares (c.args.auditors - l.index) (λ files. rest_of l.lines files) (omega arith)
+          l.invariant.modelled;
+      file = search rules;
+      shelf = search rules;
+    }

@@ -8,4 +8,4 @@ returns-clause-modelled g c =
     (g.S.Shelf.held c.begin_named.new.shelf) c.read_coin-coin.new.lines c.read_coin-coin.result
     c.named_value-coin.result
     c.in_ok-lines.ensures.shelf.held c.in_ok-lines.ensures.modelled
-    c.read_coin-coin.ensures.modelled c.named_value-coin.ensures.modelled
+    c.read_coin-coin.ensures.reads.modelled c.named_value-coin.ensures.modelled

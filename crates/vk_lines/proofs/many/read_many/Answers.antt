@@ -20,23 +20,26 @@ loop-number-init g c = record {
   wants = refl;
 }
 
-pub returns-in_err-item-clause-modelled : goal.returns-in_err-item-clause-modelled
-returns-in_err-item-clause-modelled g c =
-    numbered_stop (g.S.Shelf.held c.args.shelf.now) (g.S.Shelf.held c.loop-number.shelf)
-    (λ n. line_by (g.K.LineKind.item_of c.args.kind.now n))
-    (λ files. many_at c.args.count
-    (λ before. line_by (g.K.LineKind.item_of c.args.kind.now (length before)))
-    (rest_of c.args.lines.now files))
-    c.loop-number.items.items c.in_err-item.field-0.0 _ c.loop-number.number
-    (c.args.count - c.loop-number.number) (λ files. rest_of c.loop-number.lines files)
-    (λ files. rest_of c.read_item.new.lines files)
-    c.loop-number.invariant.held c.loop-number.invariant.count (omega arith) (search rules)
-    c.loop-number.invariant.modelled c.in_err-item.ensures.modelled
+pub returns-in_err-item-clause-reads : goal.returns-in_err-item-clause-reads
+returns-in_err-item-clause-reads g c = record {
+  modelled = numbered_stop (g.S.Shelf.held c.args.shelf.now) (g.S.Shelf.held c.loop-number.shelf)
+      (λ n. line_by (g.K.LineKind.item_of c.args.kind.now n))
+      (λ files. many_at c.args.count
+      (λ before. line_by (g.K.LineKind.item_of c.args.kind.now (length before)))
+      (rest_of c.args.lines.now files))
+      c.loop-number.items.items c.in_err-item.field-0.0 _ c.loop-number.number
+      (c.args.count - c.loop-number.number) (λ files. rest_of c.loop-number.lines files)
+      (λ files. rest_of c.read_item.new.lines files)
+      c.loop-number.invariant.held c.loop-number.invariant.count (omega arith) (search rules)
+      c.loop-number.invariant.modelled c.in_err-item.ensures.reads.modelled;
+  file = search rules;
+  shelf = search rules;
+}
 
 pub loop-number-preserved : goal.loop-number-preserved
 loop-number-preserved g c =
     let l = c.loop-number in
-    let file = c.read_item.ensures.file in
+    let file = c.read_item.ensures.reads.file in
     record {
       modelled = numbered_turn (g.S.Shelf.held c.args.shelf.now) (g.S.Shelf.held l.shelf)
           (λ n. line_by (g.K.LineKind.item_of c.args.kind.now n))
@@ -47,7 +50,7 @@ loop-number-preserved g c =
           (c.args.count - (l.number + 1)) (λ files. rest_of l.lines files)
           (λ files. rest_of c.read_item.new.lines files)
           l.invariant.held l.invariant.count (omega arith) c.in_ok-push.ensures.items
-          l.invariant.modelled c.in_ok-item.ensures.modelled;
+          l.invariant.modelled c.in_ok-item.ensures.reads.modelled;
       count = one_longer l.items.items c.push.new.self.items c.in_ok-item.item l.number
           l.invariant.count c.in_ok-push.ensures.items;
       each = each_more (g.K.LineKind.is_item c.args.kind.now) l.items.items c.push.new.self.items
@@ -59,18 +62,21 @@ loop-number-preserved g c =
             ∙ l.invariant.file.size;
       };
       room = omega (arith, l.invariant.room, c.in_ok-push.ensures.capacity);
-      held = c.in_ok-item.ensures.shelf.held ∙ l.invariant.held;
-      kept = c.in_ok-item.ensures.shelf.causes ∙ l.invariant.kept;
-      wants = c.in_ok-item.ensures.wants ∙ l.invariant.wants;
+      held = c.in_ok-item.ensures.reads.shelf.held ∙ l.invariant.held;
+      kept = c.in_ok-item.ensures.reads.shelf.causes ∙ l.invariant.kept;
+      wants = c.in_ok-item.ensures.reads.wants ∙ l.invariant.wants;
     }
 
-pub returns-clause-modelled : goal.returns-clause-modelled
-returns-clause-modelled g c =
-    rw c.from_vec.ensures
-    (many_done (g.S.Shelf.held c.args.shelf.now)
-    (λ before. line_by (g.K.LineKind.item_of c.args.kind.now (length before)))
-    (λ files. many_at c.args.count
-    (λ before. line_by (g.K.LineKind.item_of c.args.kind.now (length before)))
-    (rest_of c.args.lines.now files))
-    c.loop-number.items.items (c.args.count - c.loop-number.number)
-    (λ files. rest_of c.loop-number.lines files) (omega arith) c.loop-number.invariant.modelled)
+pub returns-clause-reads : goal.returns-clause-reads
+returns-clause-reads g c = record {
+  modelled = rw c.from_vec.ensures
+      (many_done (g.S.Shelf.held c.args.shelf.now)
+      (λ before. line_by (g.K.LineKind.item_of c.args.kind.now (length before)))
+      (λ files. many_at c.args.count
+      (λ before. line_by (g.K.LineKind.item_of c.args.kind.now (length before)))
+      (rest_of c.args.lines.now files))
+      c.loop-number.items.items (c.args.count - c.loop-number.number)
+      (λ files. rest_of c.loop-number.lines files) (omega arith) c.loop-number.invariant.modelled);
+  file = search rules;
+  shelf = search rules;
+}

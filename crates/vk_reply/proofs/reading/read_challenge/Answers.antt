@@ -10,4 +10,4 @@ returns-clause-answers g c =
     (g.S.Shelf.held c.args.shelf.now) c.challenge_read-challenge.result
     (λ files. rest_of c.args.lines.now files)
     (λ files. rest_of c.challenge_read-challenge.new.lines files)
-    c.challenge_read-challenge.ensures.modelled
+    c.challenge_read-challenge.ensures.reads.modelled

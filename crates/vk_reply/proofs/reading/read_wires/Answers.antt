@@ -1,4 +1,4 @@
-use Rattle.std.proofs.Common.{ℕ, List, IfSome, subst}
+use Rattle.std.proofs.Common.{ℕ, List, IfSome, rules, subst}
 use Rattle.vk_lines.specs.Forms.{many_at}
 use Rattle.vk_lines.specs.Lines.{GivesReading, rest_of}
 use Rattle.vk_wire.specs.declared.wire.Shown.{Shown}
@@ -6,13 +6,17 @@ use Rattle.vk_reply.specs.Reading.{wire_at}
 use Rattle.vk_reply.proofs.Wires.{answer_shown}
 use Rattle.vk_reply.proofs.reading.read_wires.Goals as goal
 
-pub returns-clause-modelled : goal.returns-clause-modelled
-returns-clause-modelled g c =
+pub returns-clause-reads : goal.returns-clause-reads
+returns-clause-reads g c =
     let P : ℕ → Type 0 = λ count. IfSome (g.S.Shelf.held c.args.shelf.now)
     (λ files. GivesReading (λ (x : List Shown). x) c.read_many-shown.result
     (rest_of c.read_many-shown.new.lines files)
     (many_at count (wire_at c.args.plan.now.kinds c.args.bit) (rest_of c.args.lines.now files))) in
-    subst P c.wires.ensures.value c.read_many-shown.ensures.modelled
+    record {
+      modelled = subst P c.wires.ensures.value c.read_many-shown.ensures.reads.modelled;
+      file = search rules;
+      shelf = search rules;
+    }
 
 pub returns-clause-right : goal.returns-clause-right
 returns-clause-right g c =

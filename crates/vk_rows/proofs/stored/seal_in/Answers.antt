@@ -29,4 +29,4 @@ returns-in_err-seal-clause-exact c =
     unread IsSeal seal_text seal_table seal_reads c.args.text.now c.read_seal.result
     c.from_residual-in_err-seal.result refused (λ refusal is. search (rules, is))
     (c.read_seal.ensures.answers c.args.text.now c.in_ok-shelf.ensures.rest)
-    c.read_seal.ensures.shelf.causes
+    c.read_seal.ensures.reads.shelf.causes

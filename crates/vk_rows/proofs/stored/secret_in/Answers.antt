@@ -29,4 +29,4 @@ returns-in_err-secret-clause-exact c =
     unread IsSecret secret_text secret_table secret_reads c.args.text.now c.read_secret.result
     c.from_residual-in_err-secret.result refused (λ refusal is. search (rules, is))
     (c.read_secret.ensures.answers c.args.text.now c.in_ok-shelf.ensures.rest)
-    c.read_secret.ensures.shelf.causes
+    c.read_secret.ensures.reads.shelf.causes

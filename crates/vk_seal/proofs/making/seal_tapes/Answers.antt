@@ -1,6 +1,5 @@
 use Rattle.std.proofs.Common.{◌≡◌, length, arith, ◌∙◌, ap}
 use Rattle.std.proofs.lemmas.List.Elements.{recursion_from_All}
-use Rattle.vk_seal.specs.Made.{lane_coms}
 use Rattle.vk_wire.specs.Values.{IsCom}
 use Rattle.vk_seal.specs.Values.{IsXTape}
 use Rattle.vk_seal.proofs.Tapes.{length-lane_coms}

@@ -9,4 +9,4 @@ returns-clause-answers g c =
     told_answers seal_table (λ x. x) seal_is_whole seal_ends (g.S.Shelf.held c.args.shelf.now)
     c.seal_read-seal.result
     (λ files. rest_of c.args.lines.now files) (λ files. rest_of c.seal_read-seal.new.lines files)
-    c.seal_read-seal.ensures.modelled
+    c.seal_read-seal.ensures.reads.modelled

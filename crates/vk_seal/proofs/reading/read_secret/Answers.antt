@@ -10,4 +10,4 @@ returns-clause-answers g c =
     c.secret_read-secret.result
     (λ files. rest_of c.args.lines.now files)
     (λ files. rest_of c.secret_read-secret.new.lines files)
-    c.secret_read-secret.ensures.modelled
+    c.secret_read-secret.ensures.reads.modelled
