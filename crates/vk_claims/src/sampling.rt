@@ -51,6 +51,7 @@ fn claim_case(alloc: Global, kind: ClaimKind, number: u64) -> Result<SampleCase,
 }
 
 /// The same, by both of its clauses as one.
+#[tactic(auto, using(crate::proofs::Acting::stopped_so))]
 fn make_and_hold<S: Shelf>(
     alloc: Global,
     shelf: &mut S,

@@ -1,16 +1,8 @@
 use Rattle.vk_effect.specs.Effects.{stores}
 use Rattle.vk_sample_parts.specs.Auctions.{dry_of}
-use Rattle.vk_claims.proofs.Acting.{dry_so, held_so, stopped_so}
+use Rattle.vk_claims.proofs.Acting.{dry_so, held_so}
 use Rattle.vk_claims.specs.Claims.{proof_in}
 use Rattle.vk_claims.proofs.sampling.make_and_hold.Goals as goal
-
-pub returns-in_err-case-clause-so : goal.returns-in_err-case-clause-so
-returns-in_err-case-clause-so g c = λ ledger.
-    stopped_so c.args.kind c.args.number _ c.from_residual.ensures.0 _
-
-pub returns-in_err-published-clause-so : goal.returns-in_err-published-clause-so
-returns-in_err-published-clause-so g c = λ ledger.
-    stopped_so c.args.kind c.args.number _ c.from_residual-in_err-published.ensures.0 _
 
 pub returns-in-Ok-clause-so : goal.returns-in-Ok-clause-so
 returns-in-Ok-clause-so g c = λ ledger.
