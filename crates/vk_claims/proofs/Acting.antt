@@ -9,8 +9,7 @@ use Rattle.vk_lines.specs.Gives.{Refuses}
 use Rattle.vk_keeper.specs.Ledgers.{Ledger}
 use Rattle.vk_job.specs.Proofs.{ProofValue}
 use Rattle.vk_report.specs.declared.sample.SampleCase.{SampleCase}
-use Rattle.vk_report.specs.declared.sample.Sizes.{Sizes}
-use Rattle.vk_report.specs.Samples.{IsCaseOf, case_of}
+use Rattle.vk_report.specs.Samples.{IsCaseOf}
 use Rattle.vk_words.specs.declared.claim.ClaimKind.{ClaimKind}
 use Rattle.vk_words.specs.declared.claim.ClaimKind.TheVariants.{Uniform, Matching}
 use Rattle.vk_effect.specs.Effects.{Effect, SaidValue, Stores, stores}
@@ -122,11 +121,8 @@ stopped_so Matching number (Err stop) refused old = record { acts = tt; free = i
 
 -- ---- of what was made and found
 
-module _ (kind : ClaimKind) (number : ℕ) (sizes : Sizes) (sizes_are : sizes ≡ sizes_of kind) (case : SampleCase) (made_case : case ≡ case_of sizes number)
+module _ (kind : ClaimKind) (number : ℕ) (case : SampleCase) (case_is : case ≡ claim_case kind number)
     (found numbers : List ℕ) (published : MayPublish kind case found) (numbers_are_found : numbers ≡ found) where
-  case_is : case ≡ claim_case kind number
-  case_is = made_case ∙ ap (λ of. case_of of number) sizes_are
-
   may : MayPublish kind case numbers
   may = subst (MayPublish kind case) (sym numbers_are_found) published
 

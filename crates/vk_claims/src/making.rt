@@ -1,7 +1,8 @@
 // The honest proof of a sample's claim.
-ghost use Rattle.std.specs.Prelude.{◌≡◌, All, length, IfOk, IfSome, IsSomeAnd};
+ghost use Rattle.std.specs.Prelude.{◌≡◌, All, length, IfOk, IfSome, IsErrOf, IsSomeAnd};
 ghost use Rattle.vk_residue.specs.Residue.{IsResidue};
 ghost use Rattle.vk_lines.specs.Gives.{Gives};
+ghost use Rattle.vk_judge.specs.Wanting.{MemoryWasWanting};
 ghost use Rattle.vk_report.specs.Samples.{IsCaseOf};
 ghost use Rattle.vk_claims.specs.Circuits.{plan_of};
 ghost use Rattle.vk_sample_parts.specs.Auctions.{dry_of};
@@ -35,7 +36,7 @@ struct Filled {
 }
 
 /// What the proof of the case is made from, where these numbers are published.
-#[tactic(auto, unfolding(crate::specs::Claims::proof_by))]
+#[tactic(auto, unfolding(crate::specs::Claims::proof_by), using(vk_judge::specs::Wanting::memory_was_wanting))]
 pub fn make_claim(
     alloc: Global,
     kind: ClaimKind,
@@ -46,6 +47,7 @@ pub fn make_claim(
     requires published { MayPublish kind case.now numbers.now }
     ensures proof { Gives dry_of (proof_in case.now) result (proof_by kind case.now numbers.now) }
     ensures prepared { IfOk result (λ made. IsReady case.now made) }
+    ensures wanting { IsErrOf result SampleErr.NoMemory → MemoryWasWanting }
 {
     let rows = seal_rows(alloc, case)?;
     let filled = filled_by(alloc, kind, case, numbers)?;

@@ -1,6 +1,7 @@
 // The numbers that the claim of a sample publishes: the width of the sealed values, and what is
 // claimed of them.
-ghost use Rattle.std.specs.Prelude.{◌≡◌, ◌++◌, IfOk};
+ghost use Rattle.std.specs.Prelude.{◌≡◌, ◌++◌, IfOk, IsErr};
+ghost use Rattle.vk_judge.specs.Wanting.{MemoryWasWanting};
 ghost use Rattle.vk_report.specs.Samples.{IsCaseOf};
 ghost use Rattle.vk_claims.specs.Claims.{IsMatchingOf, IsSaleOf, MayPublish, sizes_of};
 ghost use Rattle.vk_words.specs.declared.claim.ClaimKind.TheVariants.{Uniform, Matching};
@@ -43,7 +44,8 @@ pub fn sizes_of(kind: ClaimKind) -> Sizes
 /// Numbers that may be published of the case.
 pub fn numbers_of(alloc: Global, kind: ClaimKind, case: &SampleCase) -> Result<Seq<u64>, NoMemory>
     requires { IsCaseOf (sizes_of kind) case.now }
-    ensures { IfOk result (MayPublish kind case.now) }
+    ensures may { IfOk result (MayPublish kind case.now) }
+    ensures wanting { IsErr result → MemoryWasWanting }
 {
     match kind {
         ClaimKind::Uniform => {
@@ -58,9 +60,11 @@ pub fn numbers_of(alloc: Global, kind: ClaimKind, case: &SampleCase) -> Result<S
 }
 
 /// The width, the price, and the winners of the one outcome that the bids have.
+#[tactic(auto, using(vk_judge::specs::Wanting::memory_was_wanting))]
 fn sale_of(alloc: Global, case: &SampleCase) -> Result<Seq<u64>, NoMemory>
     requires { IsCaseOf (sizes_of Uniform) case.now }
-    ensures { IfOk result (IsSaleOf case.now) }
+    ensures sale { IfOk result (IsSaleOf case.now) }
+    ensures wanting { IsErr result → MemoryWasWanting }
 {
     let outcome = uniform(alloc, case.bids.as_slice(), UNITS)?;
     let front = [u64::from(case.width), outcome.price];
@@ -69,9 +73,11 @@ fn sale_of(alloc: Global, case: &SampleCase) -> Result<Seq<u64>, NoMemory>
 }
 
 /// The width, and a matching that no pair blocks by the ranks.
+#[tactic(auto, using(vk_judge::specs::Wanting::memory_was_wanting))]
 fn matching_of(alloc: Global, case: &SampleCase) -> Result<Seq<u64>, NoMemory>
     requires { IsCaseOf (sizes_of Matching) case.now }
-    ensures { IfOk result (IsMatchingOf case.now) }
+    ensures matching { IfOk result (IsMatchingOf case.now) }
+    ensures wanting { IsErr result → MemoryWasWanting }
 {
     let matching = propose(alloc, COUPLES, case.bids.as_slice())?;
     let numbers = listed(alloc, &[u64::from(case.width)], matching.as_slice())?;

@@ -1,9 +1,9 @@
-ghost use Rattle.std.specs.Prelude.{◌≡◌, ℕ, IsErrOf, Ok};
+ghost use Rattle.std.specs.Prelude.{◌≡◌, ℕ, IfOk, IsErr, IsErrOf, Ok};
 ghost use Rattle.vk_io.specs.Faults.{Causes};
 ghost use Rattle.vk_judge.specs.Wanting.{MemoryWasWanting};
 ghost use Rattle.vk_report.specs.Samples.{IsCaseOf};
 ghost use Rattle.vk_sample_parts.specs.Effects.{ActsAs};
-ghost use Rattle.vk_claims.specs.Claims.{IsReady, MayPublish, proof_by, proof_in, sizes_of};
+ghost use Rattle.vk_claims.specs.Claims.{IsReady, MayPublish, claim_case, proof_by, proof_in, sizes_of};
 ghost use Rattle.vk_claims.specs.ClaimSamples.{ActsOn, FreelyOn, claim_sample_on, effect_by};
 
 use crate::files::write_claim;
@@ -15,6 +15,7 @@ use std::alloc::Global;
 use vk_effect::Said;
 use vk_io::{OutsideErr, Shelf};
 use vk_report::{SampleCase, case_of};
+use vk_residue::NoMemory;
 use vk_words::ClaimKind;
 
 /// Makes the claim of a number with its file and two replies, writes them, reads them back, and
@@ -30,6 +31,7 @@ pub fn claim_sample<S: Shelf>(
     ensures acts { ActsAs (λ ledger. claim_sample_on (S.held shelf.old) ledger kind number) result
         (S.held shelf.old) (S.held shelf.new) }
     ensures free { FreelyOn kind number result (S.held shelf.old) (S.held shelf.new) }
+    ensures wanting { IsErrOf result OutsideErr.NoMemory → MemoryWasWanting }
     ensures causes { Causes OutsideErr.Failed result (S.Shelf.faults shelf.old)
         (S.Shelf.faults shelf.new) }
 {
@@ -37,7 +39,19 @@ pub fn claim_sample<S: Shelf>(
     said
 }
 
+/// The case of the number.
+#[tactic(auto, using(vk_judge::specs::Wanting::memory_was_wanting))]
+fn claim_case(alloc: Global, kind: ClaimKind, number: u64) -> Result<SampleCase, NoMemory>
+    ensures case { IfOk result (λ case. case ≡ claim_case kind number) }
+    ensures right { IfOk result (IsCaseOf (sizes_of kind)) }
+    ensures wanting { IsErr result → MemoryWasWanting }
+{
+    let case = case_of(alloc, &sizes_of(kind), number)?;
+    Ok(case)
+}
+
 /// The same, by both of its clauses as one.
+#[tactic(auto, using(crate::proofs::Acting::stopped_so))]
 fn make_and_hold<S: Shelf>(
     alloc: Global,
     shelf: &mut S,
@@ -45,10 +59,11 @@ fn make_and_hold<S: Shelf>(
     number: u64,
 ) -> Result<Said, OutsideErr>
     ensures so { ActsOn kind number result (S.held shelf.old) (S.held shelf.new) }
+    ensures wanting { IsErrOf result OutsideErr.NoMemory → MemoryWasWanting }
     ensures causes { Causes OutsideErr.Failed result (S.Shelf.faults shelf.old)
         (S.Shelf.faults shelf.new) }
 {
-    let case = case_of(alloc, &sizes_of(kind), number)?;
+    let case = claim_case(alloc, kind, number)?;
     let published = numbers_of(alloc, kind, &case)?;
     let numbers = published.as_slice();
     match make_claim(alloc, kind, &case, numbers) {

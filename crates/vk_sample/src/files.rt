@@ -1,8 +1,9 @@
 // The files of a sample.
-ghost use Rattle.std.specs.Prelude.{◌≡◌, length};
+ghost use Rattle.std.specs.Prelude.{◌≡◌, IsErrOf, length};
 ghost use Rattle.vk_io.specs.Faults.{Causes};
 ghost use Rattle.vk_io.specs.Files.{Modelled};
 ghost use Rattle.vk_io.specs.Writing.{WritesAll};
+ghost use Rattle.vk_judge.specs.Wanting.{MemoryWasWanting};
 ghost use Rattle.vk_words.specs.Names.{extract_seen};
 ghost use Rattle.vk_sample.specs.Texts.{files_of, sample_names};
 
@@ -43,6 +44,7 @@ pub fn sample_names() -> ExtractNames<'static>
 
 /// Writes the files of the sample, board and replies lane by lane. Files that stand there are
 /// replaced.
+#[tactic(auto, using(vk_judge::specs::Wanting::memory_was_wanting))]
 pub fn write_sample<S: Shelf>(
     alloc: Global,
     shelf: &mut S,
@@ -53,6 +55,7 @@ pub fn write_sample<S: Shelf>(
     requires second { length sample.now.second.bits ≡ job.now.auction.lanes }
     ensures written { Modelled (WritesAll (files_of sample.now job.now.auction) result)
         (S.held shelf.old) (S.held shelf.new) }
+    ensures wanting { IsErrOf result OutsideErr.NoMemory → MemoryWasWanting }
     ensures causes { Causes OutsideErr.Failed result (S.Shelf.faults shelf.old)
         (S.Shelf.faults shelf.new) }
 {

@@ -1,5 +1,7 @@
-ghost use Rattle.std.specs.Prelude.{◌≡◌, ℕ, Ok};
+ghost use Rattle.std.specs.Prelude.{◌≡◌, ℕ, IfOk, IsErr, IsErrOf, Ok};
 ghost use Rattle.vk_io.specs.Faults.{Causes};
+ghost use Rattle.vk_judge.specs.Wanting.{MemoryWasWanting};
+ghost use Rattle.vk_report.specs.Samples.{sample_of};
 ghost use Rattle.vk_sample_parts.specs.Auctions.{auction_of};
 ghost use Rattle.vk_sample_parts.specs.Effects.{ActsAs};
 ghost use Rattle.vk_sample.specs.Samples.{IsSampleCase, effect_by, sample_on};
@@ -12,6 +14,18 @@ use vk_effect::Said;
 use vk_io::{OutsideErr, Shelf};
 use vk_job::Job;
 use vk_report::{SampleCase, sample_case};
+use vk_residue::NoMemory;
+
+/// The case of the number.
+#[tactic(auto, using(vk_judge::specs::Wanting::memory_was_wanting))]
+fn case_of(alloc: Global, number: u64) -> Result<SampleCase, NoMemory>
+    ensures case { IfOk result (λ case. case ≡ sample_of number) }
+    ensures right { IfOk result IsSampleCase }
+    ensures wanting { IsErr result → MemoryWasWanting }
+{
+    let case = sample_case(alloc, number)?;
+    Ok(case)
+}
 
 /// Writes the files of the sample's job, and reads them back.
 fn hold<S: Shelf>(
@@ -26,6 +40,7 @@ fn hold<S: Shelf>(
     ensures acts { ActsAs
         (λ ledger. effect_by (S.held shelf.old) ledger number sample.now (Ok job.now.auction))
         result (S.held shelf.old) (S.held shelf.new) }
+    ensures wanting { IsErrOf result OutsideErr.NoMemory → MemoryWasWanting }
     ensures causes { Causes OutsideErr.Failed result (S.Shelf.faults shelf.old)
         (S.Shelf.faults shelf.new) }
 {
@@ -41,10 +56,11 @@ fn hold<S: Shelf>(
 pub fn sample<S: Shelf>(alloc: Global, shelf: &mut S, number: u64) -> Result<Said, OutsideErr>
     ensures acts { ActsAs (λ ledger. sample_on (S.held shelf.old) ledger number) result
         (S.held shelf.old) (S.held shelf.new) }
+    ensures wanting { IsErrOf result OutsideErr.NoMemory → MemoryWasWanting }
     ensures causes { Causes OutsideErr.Failed result (S.Shelf.faults shelf.old)
         (S.Shelf.faults shelf.new) }
 {
-    let sample = sample_case(alloc, number)?;
+    let sample = case_of(alloc, number)?;
     match make_job(alloc, &sample) {
         Ok(job) => {
             let said = hold(alloc, shelf, number, &sample, &job);

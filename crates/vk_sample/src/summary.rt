@@ -1,8 +1,9 @@
 // What is said of a sample.
-ghost use Rattle.std.specs.Prelude.{◌≡◌, ◌++◌, IfOk, Ok, OnOk, flat_map, length, string_bytes};
+ghost use Rattle.std.specs.Prelude.{◌≡◌, ◌++◌, IfOk, IsErr, IsErrOf, Ok, OnOk, flat_map, length, string_bytes};
 ghost use Rattle.vk_commit.specs.Commitment.{TwoOpeningsSeen};
 ghost use Rattle.vk_bids.specs.Texts.{clash_text, sale_line};
 ghost use Rattle.vk_io.specs.Reads.{OnlyReads};
+ghost use Rattle.vk_judge.specs.Wanting.{MemoryWasWanting};
 ghost use Rattle.vk_board.specs.Values.{IsHead};
 ghost use Rattle.vk_report.specs.Reports.{head_numbers};
 ghost use Rattle.vk_honest.specs.Sizes.{board_lines, reply_lines};
@@ -41,10 +42,13 @@ fn reply_lines(head: &Head) -> u32
 }
 
 /// The lines of the auction as it was made, which is of version 1.
+#[tactic(auto, using(vk_judge::specs::Wanting::memory_was_wanting))]
 pub fn made_lines(alloc: Global, number: u64, head: &Head) -> Result<Vec<String>, NoMemory>
     requires right { IsHead head.now }
     requires first { head.now.version ≡ 1 }
-    ensures { IfOk result (λ lines. flat_map string_bytes lines.items ≡ made_text number head.now) }
+    ensures made { IfOk result
+        (λ lines. flat_map string_bytes lines.items ≡ made_text number head.now) }
+    ensures wanting { IsErr result → MemoryWasWanting }
 {
     let mut lines = Vec::new(alloc);
     push(&mut lines, format!(in alloc; "sample {number}\n")?)?;
@@ -108,12 +112,14 @@ fn bids_lines(alloc: Global, made: Vec<String>, found: &Extracted) -> Result<Vec
     Ok(text)
 }
 
-/// What is said of what the replies come to as they were read back.
+/// What is said of what the replies come to as they were read back. A clash takes no memory.
+#[tactic(auto, using(vk_judge::specs::Wanting::memory_was_wanting))]
 fn opened(alloc: Global, made: Vec<String>, extraction: &Extraction) -> Result<Said, NoMemory>
     ensures said { IfOk result
         (λ said. said ≡ opened_said (flat_map string_bytes made.items) extraction.now) }
     ensures clash { (two : TwoOpeningsSeen) → extraction.now ≡ Extraction.Clash two
         → result ≡ Ok (record { status = 3; text = clash_text two }) }
+    ensures wanting { IsErr result → MemoryWasWanting }
 {
     let Extraction::Bids(found) = extraction else {
         let said = extracted(alloc, &sample_names(), extraction)?;
@@ -132,6 +138,7 @@ pub fn read_back<S: Shelf>(
 ) -> Result<Said, OutsideErr>
     ensures said { Says (S.held shelf.old) result
         (λ files. read_said (flat_map string_bytes made.items) (sample_read files)) }
+    ensures wanting { IsErrOf result OutsideErr.NoMemory → MemoryWasWanting }
     ensures shelf { OnlyReads S.held S.Shelf.faults OutsideErr.Failed result shelf.old shelf.new }
 {
     let names = sample_names();

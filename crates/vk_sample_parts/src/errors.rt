@@ -1,4 +1,4 @@
-ghost use Rattle.std.specs.Prelude.{◌≡◌, IfSome, IsSome, Ok, OnOk};
+ghost use Rattle.std.specs.Prelude.{◌≡◌, IfSome, IsErr, IsSome, Ok, OnOk};
 ghost use Rattle.vk_sample_parts.specs.Auctions.{dry_of, of_job};
 ghost use Rattle.vk_sample_parts.specs.Texts.{dry_said};
 
@@ -59,6 +59,7 @@ impl SampleErr {
     pub fn said(self) -> Result<Said, NoMemory>
         ensures said { IfSome (dry_of self) (λ dry. result ≡ Ok (dry_said dry)) }
         ensures dry { OnOk result (IsSome (dry_of self)) }
+        ensures memory { IsErr result → self ≡ SampleErr.NoMemory }
     {
         match self {
             SampleErr::DryBidder { lane } => Ok(Said::of_short(8, bidder_dry_line(lane))),

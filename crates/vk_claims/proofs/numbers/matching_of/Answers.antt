@@ -3,8 +3,8 @@ use Rattle.vk_matching.specs.Stability.{IsStable}
 use Rattle.vk_claims.specs.Claims.{couples}
 use Rattle.vk_claims.proofs.numbers.matching_of.Goals as goal
 
-pub returns : goal.returns
-returns c = record {
+pub returns-clause-matching : goal.returns-clause-matching
+returns-clause-matching c = record {
   matching = c.in_ok-matching.matching.items;
   permutation = c.in_ok-matching.ensures.permutation;
   stable = subst (λ ranks. IsStable couples ranks c.in_ok-matching.matching.items)

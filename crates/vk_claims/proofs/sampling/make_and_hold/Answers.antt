@@ -1,26 +1,14 @@
 use Rattle.vk_effect.specs.Effects.{stores}
 use Rattle.vk_sample_parts.specs.Auctions.{dry_of}
-use Rattle.vk_claims.proofs.Acting.{dry_so, held_so, stopped_so}
-use Rattle.vk_claims.proofs.Cases.{sizes_are}
+use Rattle.vk_claims.proofs.Acting.{dry_so, held_so}
 use Rattle.vk_claims.specs.Claims.{proof_in}
 use Rattle.vk_claims.proofs.sampling.make_and_hold.Goals as goal
 
-pub case_of-requires : goal.case_of-requires
-case_of-requires g c = rw (c.sizes_of.ensures) (sizes_are c.args.kind)
-
-pub returns-in_err-case-clause-so : goal.returns-in_err-case-clause-so
-returns-in_err-case-clause-so g c = λ ledger.
-    stopped_so c.args.kind c.args.number _ c.from_residual.ensures.0 _
-
-pub returns-in_err-published-clause-so : goal.returns-in_err-published-clause-so
-returns-in_err-published-clause-so g c = λ ledger.
-    stopped_so c.args.kind c.args.number _ c.from_residual-in_err-published.ensures.0 _
-
 pub returns-in-Ok-clause-so : goal.returns-in-Ok-clause-so
 returns-in-Ok-clause-so g c = λ ledger.
-    held_so c.args.kind c.args.number c.sizes_of.result c.sizes_of.ensures c.in_ok-case.case
-    c.in_ok-case.ensures.case c.in_ok-published.published
-    c.as_slice-numbers.result.now c.in_ok-published.ensures c.as_slice-numbers.ensures
+    held_so c.args.kind c.args.number c.in_ok-case.case c.in_ok-case.ensures.case
+    c.in_ok-published.published c.as_slice-numbers.result.now c.in_ok-published.ensures.may
+    c.as_slice-numbers.ensures
     (proof_in c.in_ok-case.case c.in-Ok.made) c.hold-said.result
     (stores (g.S.Shelf.held c.args.shelf.now) ledger)
     (stores (g.S.Shelf.held c.hold-said.new.shelf) ledger) c.in-Ok.ensures.proof
@@ -28,9 +16,9 @@ returns-in-Ok-clause-so g c = λ ledger.
 
 pub returns-clause-so : goal.returns-clause-so
 returns-clause-so g c = λ ledger.
-    dry_so c.args.kind c.args.number c.sizes_of.result c.sizes_of.ensures c.in_ok-case.case
-    c.in_ok-case.ensures.case c.in_ok-published.published
-    c.as_slice-numbers.result.now c.in_ok-published.ensures c.as_slice-numbers.ensures
+    dry_so c.args.kind c.args.number c.in_ok-case.case c.in_ok-case.ensures.case
+    c.in_ok-published.published c.as_slice-numbers.result.now c.in_ok-published.ensures.may
+    c.as_slice-numbers.ensures
     (dry_of c.in-Err.dry) c.in_ok-said-in-Err.said
     (g.S.Shelf.held c.args.shelf.now) ledger c.in-Err.ensures.proof c.in_ok-said-in-Err.ensures.said
     c.in_ok-said-in-Err.ensures.dry

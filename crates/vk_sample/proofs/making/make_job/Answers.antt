@@ -10,12 +10,12 @@ of-requires-clause-right c =
     is_auction c.args.sample.now c.requires.right rows
     (all_rows c.args.sample.now c.requires.right rows c.in_ok-seals.ensures)
 
-pub returns-in_err-seals : goal.returns-in_err-seals
+pub returns-in_err-seals-clause-made : goal.returns-in_err-seals-clause-made
 unfolding auction_of
-returns-in_err-seals c = rows_refused c.args.sample.now (auction_by c.args.sample.now) _ _
+returns-in_err-seals-clause-made c = rows_refused c.args.sample.now (auction_by c.args.sample.now) _ _
     c.in_err-seals.field-0.0 (search rules) c.in_err-seals.ensures
 
-pub returns : goal.returns
+pub returns-clause-made : goal.returns-clause-made
 unfolding auction_of
-returns c = job_made c.args.sample.now c.in_ok-seals.seals c.in_ok-job.job c.in_ok-seals.ensures
+returns-clause-made c = job_made c.args.sample.now c.in_ok-seals.seals c.in_ok-job.job c.in_ok-seals.ensures
     c.in_ok-job.ensures

@@ -31,7 +31,7 @@ returns-clause-acts g c = λ ledger.
     (λ files. read_said made (sample_read files))
     (reads_back c.args.sample.now auction is
     (opens_all c.args.sample.now c.requires.right auction is) c.args.number made
-    (c.in_ok-made.ensures ∙ ap (made_text c.args.number) c.head.ensures.value))
+    (c.in_ok-made.ensures.made ∙ ap (made_text c.args.number) c.head.ensures.value))
     (g.S.Shelf.held c.args.shelf.now) (g.S.Shelf.held c.write_sample.new.shelf)
     (g.S.Shelf.held c.read_back-said.new.shelf) c.read_back-said.result
     c.in_ok-write_sample.ensures.written c.read_back-said.ensures.shelf.held

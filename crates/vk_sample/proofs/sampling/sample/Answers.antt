@@ -24,17 +24,17 @@ returns-in-Ok-clause-acts g c = λ ledger.
     sample_acts c.args.number c.in_ok-sample.sample (Ok c.in-Ok.job.auction)
     (g.S.Shelf.held c.args.shelf.now) (g.S.Shelf.held c.hold-said.new.shelf) ledger
     c.hold-said.result
-    c.in_ok-sample.ensures.sample c.in-Ok.ensures (c.hold-said.ensures.acts ledger)
+    c.in_ok-sample.ensures.case c.in-Ok.ensures.made (c.hold-said.ensures.acts ledger)
 
 pub returns-clause-acts : goal.returns-clause-acts
 returns-clause-acts g c = λ ledger.
     let held = g.S.Shelf.held c.args.shelf.now in
     let sample = c.in_ok-sample.sample in
     sample_acts c.args.number sample (auction_of sample) held held ledger
-    (Ok c.in_ok-said-in-Err.said) c.in_ok-sample.ensures.sample refl
+    (Ok c.in_ok-said-in-Err.said) c.in_ok-sample.ensures.case refl
     (dry_acts (dry_of c.in-Err.dry) (auction_of sample) held ledger
     (λ auction. modelled_effect held ledger (files_of sample auction)
-    (summary_said c.args.number (head_of auction))) c.in_ok-said-in-Err.said c.in-Err.ensures
+    (summary_said c.args.number (head_of auction))) c.in_ok-said-in-Err.said c.in-Err.ensures.made
     (if_some_map _ _ (λ dry. same_said c.in_ok-said-in-Err.said (dry_said dry))
     (dry_of c.in-Err.dry) c.in_ok-said-in-Err.ensures.said) c.in_ok-said-in-Err.ensures.dry)
 
