@@ -1,5 +1,5 @@
 -- What a transaction is as a whole, by what happened in it and how it ended.
-use Rattle.std.proofs.Common.{◌≡◌, ◌∙◌, refl, sym, inl, inr, arith, true, false, Result, Ok, Err, IsErr, IsTrue, OnOk}
+use Rattle.std.proofs.Common.{◌≡◌, ◌∙◌, refl, sym, inl, inr, arith, subst, true, false, Result, Ok, Err, IsErr, IsTrue, OnOk}
 use Rattle.std.specs.Prelude.{OnErr}
 use Rattle.sqlite.specs.Store.{Ghosts}
 use Rattle.sqlite.specs.Tree.{Trees}
@@ -10,10 +10,10 @@ use Rattle.sqlite.specs.declared.error.Error.{Error}
 use Rattle.sqlite.specs.Held.{Held, state}
 use Rattle.sqlite.proofs.StateLemmas.{survives_then, survives_weaker}
 use Rattle.sqlite.proofs.Callers.{survives_begin}
-use Rattle.vk_keeper_sql.specs.Transactions.{CommitsNothing, CommitsAtOnce, ChangesNothing, SeesCommitted}
+use Rattle.vk_keeper_sql.specs.Transactions.{ChangesNothing, CommitsAtOnce, CommitsNothing, SeesCommitted, WhereBegun, WorksInside}
 
 -- a store that no statement has reached
-survives_same : (state : State) (P : Trees → Type 0) → Survives state state P
+pub survives_same : (state : State) (P : Trees → Type 0) → Survives state state P
 survives_same state P = record {
   clean = omega arith;
   shield = λ h. h;
@@ -26,12 +26,9 @@ survives_same state P = record {
 pub keeps_same : (state : State) → KeepsCommit state state
 keeps_same state = record { was_open = λ h. h; committed = λ h. refl }
 
-pub was_clean : (old new : State) → CommitsNothing old new → HasCleanDisk new → HasCleanDisk old
-was_clean old new none clean = omega (arith, none.clean)
-
-pub late_clean : (mid new : State) (P : Trees → Type 0) → Survives mid new P → HasCleanDisk new
-    → HasCleanDisk mid
-late_clean mid new P end clean = omega (arith, end.clean)
+pub was_clean : {P : Trees → Type 0} (old new : State) → Survives old new P → HasCleanDisk new
+    → HasCleanDisk old
+was_clean old new step clean = omega (arith, step.clean)
 
 on_ok_of_err : {E : Type 0} (P : Type 0) (result : Result Unit E) → IsErr result → OnOk result P
 on_ok_of_err P (Ok done) refused = absurd (let e = refused in cc)
@@ -40,11 +37,6 @@ on_ok_of_err P (Err refusal) refused = tt
 on_err_of : {E : Type 0} (P : Type 0) (result : Result Unit E) → P → OnErr result P
 on_err_of P (Ok done) h = tt
 on_err_of P (Err refusal) h = h
-
-both_on_ok : {E : Type 0} (A B : Type 0) (result : Result Unit E) → OnOk result A → B
-    → OnOk result (A × B)
-both_on_ok A B (Ok done) first second = (first, second)
-both_on_ok A B (Err refusal) first second = tt
 
 -- a refused call, where nothing is committed
 pub nothing_at_once : {E : Type 0} (Makes : Database → Type 0) (old new : State)
@@ -105,33 +97,89 @@ commit_done mid new shows = record {
   same = shows.now_is ∙ sym shows.committed_is;
 }
 
-module _ {S : Type 0} (g : Ghosts S) (old : Held S) (mid new : State) (inside : CommitsNothing (state g (record old { in_transaction = true })) mid) where
-  begun : CommitsNothing (state g old) mid
-  begun = survives_begin g old mid _ inside
+-- a transaction that was begun, in which one step was taken, and that has ended
+module _ {S : Type 0} (g : Ghosts S) (old begun mid last new : Held S) (is : begun ≡ record old { in_transaction = true }) (same : last ≡ new) where
+  -- the step was refused, and the transaction rolled back
+  pub undone_at_once : {T E F : Type 0} {Does : T → Held S → Held S → Type 0}
+      {Stops : Held S → Held S → E → Type 0} {told : E} (Makes : Database → Type 0)
+      (result : Result Unit F) → IsErr result
+      → WorksInside g Does (WhereBegun g Stops) begun mid (Err told)
+      → CommitsNothing (state g mid) (state g last)
+      → (HasCleanDisk (state g last) → IsRolledBack (state g mid) (state g last))
+      → CommitsAtOnce Makes (state g old) (state g new) result
+      × (HasCleanDisk (state g new) → Stops (record old { in_transaction = true }) mid told
+      × IsRolledBack (state g mid) (state g new))
+  undone_at_once {Does} {Stops} {told} Makes result refused step end undone =
+      let within = subst (λ h. WorksInside g Does (WhereBegun g Stops) h mid (Err told)) is step in
+      let begun = survives_begin g old (state g mid) _ within.crash in
+      subst (λ h. CommitsAtOnce Makes (state g old) (state g h) result
+      × (HasCleanDisk (state g h) → Stops (record old { in_transaction = true }) mid told
+      × IsRolledBack (state g mid) (state g h))) same (
+        nothing_at_once Makes (state g old) (state g last) result refused
+            (survives_then (state g old) (state g mid) (state g last) _ _ _ (λ _ db no. no)
+            (λ _ db no. no) begun end) (λ clean. rolled_back g old (state g mid) (state g last)
+            (within.stays (was_clean _ _ end clean) refl).kept (undone clean)),
+        λ clean. ((within.refused (was_clean _ _ end clean)).stops refl, undone clean),
+      )
 
-  -- a transaction that was rolled back
-  pub rolled_back_at_once : {E : Type 0} (Makes : Database → Type 0) (result : Result Unit E)
-      → IsErr result → CommitsNothing mid new → (HasCleanDisk new → ChangesNothing (state g old) new)
-      → CommitsAtOnce Makes (state g old) new result
-  rolled_back_at_once Makes result refused end same =
-      nothing_at_once Makes (state g old) new result refused
-      (survives_then (state g old) mid new _ _ _ (λ _ db no. no) (λ _ db no. no) begun end) same
+  -- what a crash leaves of one that ended in a commit of what the step made
+  made_at_once : (Makes : Database → Type 0)
+      → CommitsNothing (state g (record old { in_transaction = true })) (state g mid)
+      → (HasCleanDisk (state g mid) → Makes (state g mid).now)
+      → Survives (state g mid) (state g last) (λ db. db ≡ (state g mid).now.trees)
+      → Survives (state g old) (state g last)
+      (λ db. (db ≡ (state g mid).now.trees) × Makes (state g mid).now)
+  made_at_once Makes inside made end =
+      survives_then (state g old) (state g mid) (state g last) _ _
+      (λ db. (db ≡ (state g mid).now.trees) × Makes (state g mid).now) (λ _ db no. absurd no)
+      (λ clean db is. (is, made (was_clean _ _ end clean)))
+      (survives_begin g old (state g mid) _ inside) end
 
-  -- a transaction that ended in a commit of what was made in it
-  pub committed_at_once : {E : Type 0} (Makes : Database → Type 0) (result : Result Unit E)
-      → (HasCleanDisk mid → Makes mid.now)
-      → Survives mid new (λ db. db ≡ mid.now.trees)
-      → (HasCleanDisk new → OnOk result (new.committed ≡ mid.now))
-      → (HasCleanDisk new → OnOk result (SeesCommitted new))
-      → (HasCleanDisk new → OnErr result (ChangesNothing (state g old) new))
-      → CommitsAtOnce Makes (state g old) new result
-  committed_at_once Makes result made end done seen refused =
-      let late : HasCleanDisk new → HasCleanDisk mid = λ clean. omega (arith, end.clean) in
-      record {
-        whole = mid.now;
-        crash = survives_then (state g old) mid new _ _ (λ db. (db ≡ mid.now.trees) × Makes mid.now)
-            (λ _ db no. absurd no) (λ clean db is. (is, made (late clean))) begun end;
-        done = λ clean. both_on_ok _ _ result (done clean) (made (late clean));
-        seen = seen;
-        refused = refused;
-      }
+  -- the step was taken, and the transaction committed
+  pub done_at_once : {T E F : Type 0} {Does : T → Held S → Held S → Type 0}
+      {Stops : Held S → Held S → E → Type 0} {value : T} (Makes : Database → Type 0)
+      → WorksInside g Does Stops begun mid (Ok value)
+      → (Does value (record old { in_transaction = true }) mid → Makes (state g mid).now)
+      → Survives (state g mid) (state g last) (λ db. db ≡ (state g mid).now.trees)
+      → (HasCleanDisk (state g last)
+      → Shows (state g mid) (state g last) (state g mid).now (state g mid).now false)
+      → CommitsAtOnce {E = F} Makes (state g old) (state g new) (Ok tt)
+  done_at_once {F} {Does} {Stops} {value} Makes step so end shown =
+      let within = subst (λ h. WorksInside g Does Stops h mid (Ok value)) is step in
+      let made : HasCleanDisk (state g mid) → Makes (state g mid).now = λ clean.
+      so (within.done clean) in
+      subst (λ h. CommitsAtOnce {E = F} Makes (state g old) (state g h) (Ok tt)) same (record {
+        whole = (state g mid).now;
+        crash = made_at_once Makes within.crash made end;
+        done = λ clean. ((shown clean).committed_is, made (was_clean _ _ end clean));
+        seen = λ clean. commit_done (state g mid) (state g last) (shown clean);
+        refused = λ clean. tt;
+      })
+
+  -- the step was taken, and the commit refused
+  pub failed_at_once : {T E F : Type 0} {Does : T → Held S → Held S → Type 0}
+      {Stops : Held S → Held S → E → Type 0} {value : T} {error : Error}
+      (Makes : Database → Type 0) (told : F) → WorksInside g Does Stops begun mid (Ok value)
+      → (Does value (record old { in_transaction = true }) mid → Makes (state g mid).now)
+      → Survives (state g mid) (state g last) (λ db. db ≡ (state g mid).now.trees)
+      → (HasCleanDisk (state g last) → FailsToCommit (state g mid) (state g last) error)
+      → CommitsAtOnce Makes (state g old) (state g new) (Err told)
+      × (HasCleanDisk (state g new) → Does value (record old { in_transaction = true }) mid
+      × FailsToCommit (state g mid) (state g new) error)
+  failed_at_once {Does} {Stops} {value} {error} Makes told step so end failed =
+      let within = subst (λ h. WorksInside g Does Stops h mid (Ok value)) is step in
+      subst (λ h. CommitsAtOnce Makes (state g old) (state g h) (Err told)
+      × (HasCleanDisk (state g h) → Does value (record old { in_transaction = true }) mid
+      × FailsToCommit (state g mid) (state g h) error)) same (
+        record {
+          whole = (state g mid).now;
+          crash = made_at_once Makes within.crash (λ clean. so (within.done clean)) end;
+          done = λ clean. tt;
+          seen = λ clean. tt;
+          refused = λ clean.
+              let stays = within.stays (was_clean _ _ end clean) refl in
+              commit_failed g old (state g mid) (state g last) error stays.kept stays.inside
+              (failed clean);
+        },
+        λ clean. (within.done (was_clean _ _ end clean), failed clean),
+      )

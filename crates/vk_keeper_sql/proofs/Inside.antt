@@ -1,11 +1,10 @@
 -- Steps inside a transaction: each keeps what was committed.
-use Rattle.std.proofs.Common.{◌∙◌, ◌⊎◌, ap, inl, inr, cond, List, Option, Some, None, ℕ, Result, Ok, Err, IsErr, IsTrue, OnOk}
+use Rattle.std.proofs.Common.{◌∙◌, ◌⊎◌, ap, inl, inr, cond, List, Option, Some, None, ℕ, IsTrue}
 use Rattle.sqlite.specs.Order.{Row}
 use Rattle.sqlite.specs.State.{State, KeepsCommit, IsNotRun, IsTooLate, ShowsRows, FailsToShow, FailsToQuery, Shown}
 use Rattle.sqlite_schema.specs.declared.command.Returning.{Returning}
 use Rattle.sqlite.specs.declared.error.Error.{Error}
-use Rattle.sqlite.proofs.InsideLemmas.{keeps_then, unchanged_keeps}
-use Rattle.vk_keeper_sql.specs.Transactions.{StaysInside}
+use Rattle.sqlite.proofs.InsideLemmas.{unchanged_keeps}
 
 shown_part : (old new : State) (sql : List ℕ) (c : _) (params : Row) (rows : List Row)
     (returning : Option Returning) → IsTrue old.in_transaction
@@ -55,15 +54,3 @@ pub unanswered_keeps : (old new : State) (sql : List ℕ) (params : Row) (e : Er
     → FailsToQuery sql params old new e ⊎ IsTooLate sql params old new e → KeepsCommit old new
 unanswered_keeps old new sql params e (inl failed) = fails_keeps old new sql params e failed
 unanswered_keeps old new sql params e (inr late) = unchanged_keeps old new (inl late.5)
-
--- a refused step behind those that kept what was committed
-pub stops_then : {T E U F : Type 0} (old mid new : State) (step : Result T E) (result : Result U F)
-    → IsErr result → KeepsCommit old mid → StaysInside mid new step → StaysInside old new result
-stops_then old mid new step result refused before stays = record {
-  kept = keeps_then old mid new before stays.kept;
-  inside = none _ result refused;
-}
-  where
-    none : {U F : Type 0} (P : Type 0) (result : Result U F) → IsErr result → OnOk result P
-    none P (Ok done) refused = absurd (let e = refused in cc)
-    none P (Err refusal) refused = tt

@@ -1,5 +1,5 @@
 -- What is run on a store as it is opened.
-use Rattle.std.specs.Prelude.{◌≡◌, ℕ, pos, true, List, [], ◌∷◌, Ok}
+use Rattle.std.specs.Prelude.{◌≡◌, ℕ, pos, true, List, [], ◌∷◌, map, Ok}
 use Rattle.sqlite.specs.Store.{Ghosts}
 use Rattle.sqlite.specs.Effect.{Database}
 use Rattle.sqlite.specs.Order.{Row, column}
@@ -11,13 +11,17 @@ use Rattle.vk_keeper_sql.specs.declared.layout.Layout.{Layout}
 use Rattle.vk_keeper_sql.specs.declared.layout.Layout.TheVariants.{Blank, First, Second, Other}
 use Rattle.vk_keeper_sql.specs.Layouts.{HasLayout}
 use Rattle.vk_keeper_sql.specs.Statements.{make_about, make_auctions, make_seals, make_terms, first_number, next_number, number_query, ids_query, keep_terms}
-use Rattle.vk_keeper_sql.specs.Transactions.{Ran, Answers}
+use Rattle.vk_keeper_sql.specs.Transactions.{Answers, Ran, RunsAll, Step}
 use Rattle.vk_keeper_sql.specs.Versions.{number_of}
 
 -- the terms of an auction that was kept before auctions had any, by the id that is stored: version
 -- 1, which names no reserve
 abbrev pub first_terms : Value → Row
 first_terms id = bound_value id ∷ Int (pos 1) ∷ Int (pos 0) ∷ []
+
+-- the statements that put the terms for each of these ids
+abbrev pub filling : List Row → List Step
+filling = map (λ row. (keep_terms, first_terms (column row 0)))
 
 module _ {S : Type 0} (g : Ghosts S) where
   -- the table `about` has one row, with that number
@@ -40,9 +44,7 @@ module _ {S : Type 0} (g : Ghosts S) where
 
   -- terms were put for each of these ids
   abbrev pub AddsTerms : List Row → Held S → Held S → Type 0
-  AddsTerms [] old new = new ≡ old
-  AddsTerms (row ∷ rows) old new = (mid : Held S)
-      × Ran g keep_terms (first_terms (column row 0)) old mid × AddsTerms rows mid new
+  AddsTerms ids = RunsAll g (filling ids)
 
   -- tables of the number 1 got terms for each of their auctions, and the number 2
   pub record LiftsTables (old new : Held S) : Type 0 where

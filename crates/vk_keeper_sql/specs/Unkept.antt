@@ -1,6 +1,6 @@
 -- Why an auction isn't kept, over a disk that returned what was written. What a connection refuses
 -- is said by its own relations, of the store before and behind the refused step.
-use Rattle.std.specs.Prelude.{◌≡◌, ℕ, ◌+◌, ◌≤◌, pos, true, List, [], ◌∷◌, length, map, take, drop, IsTrue}
+use Rattle.std.specs.Prelude.{◌≡◌, ℕ, ◌≤◌, pos, true, List, [], ◌∷◌, length, map, take, drop, IsTrue}
 use Rattle.sqlite.specs.Store.{Ghosts}
 use Rattle.sqlite.specs.Order.{Row}
 use Rattle.sqlite.specs.Held.{Held, state}
@@ -12,18 +12,11 @@ use Rattle.vk_io.specs.declared.errors.OutsideErr.{OutsideErr}
 use Rattle.vk_io.specs.declared.errors.OutsideErr.TheVariants.{Failed, NoMemory}
 use Rattle.vk_keeper.specs.declared.auction.Auction.{Auction}
 use Rattle.vk_rows.specs.declared.texts.SealTexts.{SealTexts}
-use Rattle.vk_rows.specs.Columns.{ShowSeals, auction_row, terms_row, seal_row, seal_texts}
+use Rattle.vk_rows.specs.Columns.{ShowSeals, auction_row, terms_row, seal_texts}
 use Rattle.vk_rows.specs.Refusals.{statement_refusal}
-use Rattle.vk_keeper_sql.specs.Statements.{seals_query, keep_auction, keep_terms, drop_seals, keep_seal}
-use Rattle.vk_keeper_sql.specs.Transactions.{Ran, Answers, RefusesRun, RefusesQuery}
-use Rattle.vk_keeper_sql.specs.Unopened.{Step, StopsAmong}
-use Rattle.vk_keeper_sql.specs.Writing.{WritesAuction}
-
--- the statements that write the rows of these seals, one each, at the positions behind so many
-abbrev pub adding : List ℕ → ℕ → List SealTexts → List Step
-adding id before [] = []
-adding id before (seal ∷ seals) =
-    (keep_seal, seal_row id (before + 1) seal) ∷ adding id (before + 1) seals
+use Rattle.vk_keeper_sql.specs.Statements.{seals_query, keep_auction, keep_terms, drop_seals}
+use Rattle.vk_keeper_sql.specs.Transactions.{Answers, Ran, RefusesQuery, RefusesRun, StopsAmong}
+use Rattle.vk_keeper_sql.specs.Writing.{WritesAuction, adding}
 
 module _ {S : Type 0} (g : Ghosts S) where
   -- the rows of an id's seals weren't written: the query for those that stand was refused, or the

@@ -1,9 +1,9 @@
 -- Why a store isn't opened, over a disk that returned what was written. What a connection refuses
 -- is said by its own relations, of the store before and behind the refused step: its want of memory
 -- and a fault of the disk too, behind which it has ended the transaction.
-use Rattle.std.specs.Prelude.{◌≡◌, ◌≢◌, ◌⊎◌, ℕ, pos, true, List, [], ◌∷◌, map, Err, IsTrue}
+use Rattle.std.specs.Prelude.{◌≡◌, ◌≢◌, ℕ, pos, true, List, [], ◌∷◌, Err, IsTrue}
 use Rattle.sqlite.specs.Store.{Ghosts}
-use Rattle.sqlite.specs.Order.{Row, column}
+use Rattle.sqlite.specs.Order.{Row}
 use Rattle.sqlite.specs.Held.{Held, state}
 use Rattle.sqlite.specs.State.{IsRolledBack}
 use Rattle.sqlite.specs.Steps.{FailsToCommit}
@@ -15,33 +15,19 @@ use Rattle.vk_keeper_sql.specs.declared.errors.OpenErr.TheVariants.{Refused}
 use Rattle.vk_keeper_sql.specs.declared.layout.Layout.{Layout}
 use Rattle.vk_keeper_sql.specs.declared.layout.Layout.TheVariants.{Blank, First, Second, Other}
 use Rattle.vk_keeper_sql.specs.Layouts.{HasLayout}
-use Rattle.vk_keeper_sql.specs.Opening.{AddsTerms, IsNumbered, PreparesFrom, first_terms}
+use Rattle.vk_keeper_sql.specs.Opening.{AddsTerms, IsNumbered, PreparesFrom, filling}
 use Rattle.vk_keeper_sql.specs.Refusals.{open_refusal}
 use Rattle.vk_rows.specs.Refusals.{statement_refusal}
-use Rattle.vk_keeper_sql.specs.Statements.{make_about, make_auctions, make_seals, make_terms, first_number, next_number, number_query, ids_query, keep_terms}
-use Rattle.vk_keeper_sql.specs.Transactions.{Ran, Answers, RefusesRun, RefusesQuery}
+use Rattle.vk_keeper_sql.specs.Statements.{make_about, make_auctions, make_seals, make_terms, first_number, next_number, number_query, ids_query}
+use Rattle.vk_keeper_sql.specs.Transactions.{Answers, Ran, RefusesQuery, RefusesRun, Step, StopsAmong}
 use Rattle.vk_keeper_sql.specs.Versions.{number_of}
-
--- a statement with its parameters
-abbrev pub Step : Type 0
-Step = List ℕ × Row
 
 -- the statements that make the tables of a new store
 abbrev pub making : List Step
 making = (make_about, []) ∷ (make_auctions, []) ∷ (make_seals, []) ∷ (make_terms, [])
     ∷ (first_number, Int (pos 2) ∷ []) ∷ []
 
--- those that put the terms for each of these ids
-abbrev pub filling : List Row → List Step
-filling = map (λ row. (keep_terms, first_terms (column row 0)))
-
 module _ {S : Type 0} (g : Ghosts S) where
-  -- of these statements one was refused, behind those before it
-  abbrev pub StopsAmong : List Step → Held S → Held S → OutsideErr → Type 0
-  StopsAmong [] old new told = ⊥
-  StopsAmong (next ∷ rest) old new told = RefusesRun g next.0 next.1 old new told
-      ⊎ ((mid : Held S) × Ran g next.0 next.1 old mid × StopsAmong rest mid new told)
-
   -- tables of the number 1 weren't lifted: a statement was refused, or the query for the ids
   pub data StopsLifting (old new : Held S) (told : OutsideErr) : Type 0 where
     make_refused : RefusesRun g make_terms [] old new told → StopsLifting old new told
@@ -49,7 +35,7 @@ module _ {S : Type 0} (g : Ghosts S) where
         → RefusesQuery g ids_query [] made new told → StopsLifting old new told
     terms_refused : (made asked : Held S) (ids : List Row) → Ran g make_terms [] old made
         → Answers g ids_query [] made asked ids
-        → StopsAmong (filling ids) asked new told → StopsLifting old new told
+        → StopsAmong g (filling ids) asked new told → StopsLifting old new told
     number_refused : (made asked filled : Held S) (ids : List Row) → Ran g make_terms [] old made
         → Answers g ids_query [] made asked ids → AddsTerms g ids asked filled
         → RefusesRun g next_number (Int (pos 2) ∷ []) filled new told → StopsLifting old new told
@@ -69,7 +55,7 @@ module _ {S : Type 0} (g : Ghosts S) where
 
   -- by the tables that were there
   pub data StopsFrom (old new : Held S) (refusal : OpenErr) : Layout → Type 0 where
-    not_made : (told : OutsideErr) → StopsAmong making old new told → refusal ≡ open_refusal told
+    not_made : (told : OutsideErr) → StopsAmong g making old new told → refusal ≡ open_refusal told
         → StopsFrom old new refusal Blank
     not_first : StopsCheck 1 old new refusal → StopsFrom old new refusal First
     not_lifted : (mid : Held S) (told : OutsideErr) → IsNumbered g 1 old mid

@@ -9,15 +9,18 @@ use Rattle.vk_keeper.specs.declared.auction.Auction.{Auction}
 use Rattle.vk_rows.specs.declared.texts.SealTexts.{SealTexts}
 use Rattle.vk_rows.specs.Columns.{ShowSeals, auction_row, terms_row, seal_row, seal_texts}
 use Rattle.vk_keeper_sql.specs.Statements.{seals_query, keep_auction, keep_terms, drop_seals, keep_seal}
-use Rattle.vk_keeper_sql.specs.Transactions.{Ran, Answers}
+use Rattle.vk_keeper_sql.specs.Transactions.{Answers, Ran, RunsAll, Step}
+
+-- the statements that write the rows of these seals, one each, at the positions behind so many
+abbrev pub adding : List ℕ → ℕ → List SealTexts → List Step
+adding id before [] = []
+adding id before (seal ∷ seals) =
+    (keep_seal, seal_row id (before + 1) seal) ∷ adding id (before + 1) seals
 
 module _ {S : Type 0} (g : Ghosts S) where
   -- the rows of these seals were written, one each, at the positions behind so many
   abbrev pub AddsSeals : List ℕ → ℕ → List SealTexts → Held S → Held S → Type 0
-  AddsSeals id before [] old new = new ≡ old
-  AddsSeals id before (seal ∷ seals) old new =
-      (mid : Held S) × Ran g keep_seal (seal_row id (before + 1) seal) old mid
-      × AddsSeals id (before + 1) seals mid new
+  AddsSeals id before seals = RunsAll g (adding id before seals)
 
   -- of the rows of an id so many from the first position on are as they are to be; all others were
   -- dropped, and the rows of the seals behind were written

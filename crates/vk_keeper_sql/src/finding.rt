@@ -5,7 +5,7 @@ ghost use Rattle.sqlite.specs.Held.{state};
 ghost use Rattle.sqlite.specs.State.{HasCleanDisk};
 ghost use Rattle.vk_keeper.specs.Auctions.{IsAuction};
 ghost use Rattle.vk_keeper_sql.specs.Reading.{FailsToRead, Finds, FindsNothing, Reads, ReadsFrom};
-ghost use Rattle.vk_keeper_sql.specs.Transactions.{ChangesNothing, CommitsNothing, LeavesDisk, Stays};
+ghost use Rattle.vk_keeper_sql.specs.Transactions.{ChangesNothing, CommitsNothing, WorksInside};
 
 use crate::statements::{AUCTION, SEALS, TERMS, rows_under};
 use sqlite::{Alter, Connection, Row, Transaction};
@@ -72,14 +72,10 @@ fn rows_within<S: Alter>(
     id: &[u8; 16],
 ) -> Result<(Vec<Row>, Vec<Row>, Vec<Row>), OutsideErr>
     ensures same_reference { transaction.new.conn.ghost_name ≡ transaction.old.conn.ghost_name }
-    ensures read { HasCleanDisk (state S.Store transaction.new.conn.now)
-        → IfOk result (λ rows. ReadsFrom S.Store id.now transaction.old.conn.now rows.0.items
-        rows.1.items rows.2.items) }
-    ensures refused { HasCleanDisk (state S.Store transaction.new.conn.now)
-        → IsErrOf result OutsideErr.Failed
-        → FailsToRead S.Store id.now transaction.old.conn.now }
-    ensures crash { LeavesDisk S.Store transaction.old.conn.now transaction.new.conn.now }
-    ensures stays { Stays S.Store transaction.old.conn.now transaction.new.conn.now result }
+    ensures works { WorksInside S.Store (λ rows begun _.
+        ReadsFrom S.Store id.now begun rows.0.items rows.1.items rows.2.items)
+        (λ begun _ told. told ≡ OutsideErr.Failed → FailsToRead S.Store id.now begun)
+        transaction.old.conn.now transaction.new.conn.now result }
 {
     let heads = rows_under(transaction, AUCTION, id)?;
     let terms = rows_under(transaction, TERMS, id)?;

@@ -1,12 +1,12 @@
 //! Keeps an auction in the store.
 
-ghost use Rattle.std.specs.Prelude.{◌≡◌, ◌<◌, ◌≤◌, ◌^◌, false, length, IfErr, IsTrue, OnOk};
+ghost use Rattle.std.specs.Prelude.{◌≡◌, ◌<◌, ◌≤◌, ◌^◌, false, length, IfErr};
 ghost use Rattle.sqlite.specs.Held.{state};
 ghost use Rattle.sqlite.specs.State.{HasCleanDisk};
 ghost use Rattle.sqlite.specs.Values.{bound};
 ghost use Rattle.vk_keeper.specs.Auctions.{IsAuction};
 ghost use Rattle.vk_rows.specs.Columns.{auction_row, bits_in, terms_row, texts_of};
-ghost use Rattle.vk_keeper_sql.specs.Transactions.{CommitsAtOnce, LeavesDisk, Stays};
+ghost use Rattle.vk_keeper_sql.specs.Transactions.{CommitsAtOnce, WritesInside};
 ghost use Rattle.vk_keeper_sql.specs.Unkept.{IsUnkeptFor, StopsWriting};
 ghost use Rattle.vk_keeper_sql.specs.Writing.{Keeps, WritesAuction};
 
@@ -79,13 +79,9 @@ fn write_rows<S: Alter>(
     requires few { length auction.now.seals ≤ 64 }
     requires small { auction.now.reserve < 2 ^ 40 }
     ensures same_reference { transaction.new.conn.ghost_name ≡ transaction.old.conn.ghost_name }
-    ensures wrote { HasCleanDisk (state S.Store transaction.new.conn.now) → OnOk result
-        (WritesAuction S.Store auction.now transaction.old.conn.now transaction.new.conn.now) }
-    ensures refused { HasCleanDisk (state S.Store transaction.new.conn.now)
-        → IsTrue transaction.old.conn.now.in_transaction → IfErr result
-        (StopsWriting S.Store auction.now transaction.old.conn.now transaction.new.conn.now) }
-    ensures crash { LeavesDisk S.Store transaction.old.conn.now transaction.new.conn.now }
-    ensures stays { Stays S.Store transaction.old.conn.now transaction.new.conn.now result }
+    ensures works { WritesInside S.Store (WritesAuction S.Store auction.now)
+        (StopsWriting S.Store auction.now)
+        transaction.old.conn.now transaction.new.conn.now result }
 {
     let row = auction_columns(auction, &texts.bits);
     run(transaction, KEEP_AUCTION, &row)?;

@@ -1,13 +1,11 @@
 //! Gives auctions that were kept before auctions had terms those of version 1.
 
-ghost use Rattle.std.specs.Prelude.{◌≡◌, IfErr, IsTrue, OnOk};
+ghost use Rattle.std.specs.Prelude.{◌≡◌};
 ghost use Rattle.sqlite.specs.Order.{column};
 ghost use Rattle.vk_keeper_sql.specs.Statements.{keep_terms};
-ghost use Rattle.vk_keeper_sql.specs.Transactions.{LeavesDisk, Ran, RefusesRun, Stays};
-ghost use Rattle.vk_keeper_sql.specs.Opening.{AddsTerms, LiftsTables, first_terms};
-ghost use Rattle.vk_keeper_sql.specs.Unopened.{StopsAmong, StopsLifting, filling};
-ghost use Rattle.sqlite.specs.Held.{state};
-ghost use Rattle.sqlite.specs.State.{HasCleanDisk};
+ghost use Rattle.vk_keeper_sql.specs.Transactions.{RunsAllInside, RunsInside, WritesInside};
+ghost use Rattle.vk_keeper_sql.specs.Opening.{LiftsTables, filling, first_terms};
+ghost use Rattle.vk_keeper_sql.specs.Unopened.{StopsLifting};
 ghost use Rattle.sqlite.specs.Value.{owned};
 ghost use Rattle.sqlite.specs.Values.{bound};
 
@@ -26,13 +24,8 @@ const NEXT_NUMBER: &str = "UPDATE about SET version = ?1";
 /// version of the tables.
 pub fn lift<S: Alter>(transaction: &mut Transaction<'_, S>) -> Result<(), OutsideErr>
     ensures same_reference { transaction.new.conn.ghost_name ≡ transaction.old.conn.ghost_name }
-    ensures lifted { HasCleanDisk (state S.Store transaction.new.conn.now) → OnOk result
-        (LiftsTables S.Store transaction.old.conn.now transaction.new.conn.now) }
-    ensures refused { HasCleanDisk (state S.Store transaction.new.conn.now)
-        → IsTrue transaction.old.conn.now.in_transaction → IfErr result
-        (StopsLifting S.Store transaction.old.conn.now transaction.new.conn.now) }
-    ensures crash { LeavesDisk S.Store transaction.old.conn.now transaction.new.conn.now }
-    ensures stays { Stays S.Store transaction.old.conn.now transaction.new.conn.now result }
+    ensures works { WritesInside S.Store (LiftsTables S.Store) (StopsLifting S.Store)
+        transaction.old.conn.now transaction.new.conn.now result }
 {
     run(transaction, MAKE_TERMS, &[])?;
     let ids = ask(transaction, IDS, &[])?;
@@ -44,13 +37,8 @@ pub fn lift<S: Alter>(transaction: &mut Transaction<'_, S>) -> Result<(), Outsid
 /// Puts the terms for each of these ids.
 fn add_terms<S: Alter>(transaction: &mut Transaction<'_, S>, ids: &[Row]) -> Result<(), OutsideErr>
     ensures same_reference { transaction.new.conn.ghost_name ≡ transaction.old.conn.ghost_name }
-    ensures added { HasCleanDisk (state S.Store transaction.new.conn.now) → OnOk result
-        (AddsTerms S.Store ids.now transaction.old.conn.now transaction.new.conn.now) }
-    ensures refused { HasCleanDisk (state S.Store transaction.new.conn.now)
-        → IsTrue transaction.old.conn.now.in_transaction → IfErr result
-        (StopsAmong S.Store (filling ids.now) transaction.old.conn.now transaction.new.conn.now) }
-    ensures crash { LeavesDisk S.Store transaction.old.conn.now transaction.new.conn.now }
-    ensures stays { Stays S.Store transaction.old.conn.now transaction.new.conn.now result }
+    ensures works { RunsAllInside S.Store (filling ids.now)
+        transaction.old.conn.now transaction.new.conn.now result }
 {
     for row in ids {
         add_first_terms(transaction, row)?;
@@ -64,15 +52,8 @@ fn add_first_terms<S: Alter>(
     row: &Row,
 ) -> Result<(), OutsideErr>
     ensures same_reference { transaction.new.conn.ghost_name ≡ transaction.old.conn.ghost_name }
-    ensures ran { HasCleanDisk (state S.Store transaction.new.conn.now) → OnOk result
-        (Ran S.Store keep_terms (first_terms (column row.now 0)) transaction.old.conn.now
-        transaction.new.conn.now) }
-    ensures refused { HasCleanDisk (state S.Store transaction.new.conn.now)
-        → IsTrue transaction.old.conn.now.in_transaction → IfErr result
-        (RefusesRun S.Store keep_terms (first_terms (column row.now 0)) transaction.old.conn.now
-        transaction.new.conn.now) }
-    ensures crash { LeavesDisk S.Store transaction.old.conn.now transaction.new.conn.now }
-    ensures stays { Stays S.Store transaction.old.conn.now transaction.new.conn.now result }
+    ensures works { RunsInside S.Store keep_terms (first_terms (column row.now 0))
+        transaction.old.conn.now transaction.new.conn.now result }
 {
     let id = value_at(row, 0);
     let columns = first_columns(id);

@@ -1,16 +1,13 @@
 //! Keeps the seals of an auction in the store.
 
-ghost use Rattle.std.specs.Prelude.{◌≡◌, ◌+◌, ◌≤◌, pos, [], ◌∷◌, length, IfErr, IsTrue, OnOk};
-ghost use Rattle.sqlite.specs.Held.{state};
-ghost use Rattle.sqlite.specs.State.{HasCleanDisk};
+ghost use Rattle.std.specs.Prelude.{◌≡◌, ◌+◌, ◌≤◌, pos, [], ◌∷◌, length};
 ghost use Rattle.sqlite.specs.Values.{bound};
 ghost use Rattle.sqlite.specs.declared.types.Value.TheVariants.{Int, Blob};
 ghost use Rattle.vk_rows.specs.Columns.{seal_row};
 ghost use Rattle.vk_keeper_sql.specs.Statements.{drop_seals, keep_seal};
-ghost use Rattle.vk_keeper_sql.specs.Transactions.{LeavesDisk, Ran, RefusesRun, Stays};
-ghost use Rattle.vk_keeper_sql.specs.Unkept.{StopsSeals, adding};
-ghost use Rattle.vk_keeper_sql.specs.Unopened.{StopsAmong};
-ghost use Rattle.vk_keeper_sql.specs.Writing.{AddsSeals, WritesSeals};
+ghost use Rattle.vk_keeper_sql.specs.Transactions.{RunsAllInside, RunsInside, WritesInside};
+ghost use Rattle.vk_keeper_sql.specs.Unkept.{StopsSeals};
+ghost use Rattle.vk_keeper_sql.specs.Writing.{WritesSeals, adding};
 
 use crate::statements::{SEALS, rows_under, run};
 use sqlite::types::ValueRef;
@@ -32,13 +29,9 @@ pub fn write_seals<S: Alter>(
 ) -> Result<(), OutsideErr>
     requires { length seals.now ≤ 64 }
     ensures same_reference { transaction.new.conn.ghost_name ≡ transaction.old.conn.ghost_name }
-    ensures wrote { HasCleanDisk (state S.Store transaction.new.conn.now) → OnOk result
-        (WritesSeals S.Store id.now seals.now transaction.old.conn.now transaction.new.conn.now) }
-    ensures refused { HasCleanDisk (state S.Store transaction.new.conn.now)
-        → IsTrue transaction.old.conn.now.in_transaction → IfErr result
-        (StopsSeals S.Store id.now seals.now transaction.old.conn.now transaction.new.conn.now) }
-    ensures crash { LeavesDisk S.Store transaction.old.conn.now transaction.new.conn.now }
-    ensures stays { Stays S.Store transaction.old.conn.now transaction.new.conn.now result }
+    ensures works { WritesInside S.Store (WritesSeals S.Store id.now seals.now)
+        (StopsSeals S.Store id.now seals.now)
+        transaction.old.conn.now transaction.new.conn.now result }
 {
     let held = rows_under(transaction, SEALS, id)?;
     let standing = count_standing(held.as_slice(), seals);
@@ -55,15 +48,8 @@ fn clear_seals<S: Alter>(
     standing: u32,
 ) -> Result<(), OutsideErr>
     ensures same_reference { transaction.new.conn.ghost_name ≡ transaction.old.conn.ghost_name }
-    ensures ran { HasCleanDisk (state S.Store transaction.new.conn.now) → OnOk result
-        (Ran S.Store drop_seals (Blob id.now ∷ Int (pos standing) ∷ []) transaction.old.conn.now
-        transaction.new.conn.now) }
-    ensures refused { HasCleanDisk (state S.Store transaction.new.conn.now)
-        → IsTrue transaction.old.conn.now.in_transaction → IfErr result
-        (RefusesRun S.Store drop_seals (Blob id.now ∷ Int (pos standing) ∷ [])
-        transaction.old.conn.now transaction.new.conn.now) }
-    ensures crash { LeavesDisk S.Store transaction.old.conn.now transaction.new.conn.now }
-    ensures stays { Stays S.Store transaction.old.conn.now transaction.new.conn.now result }
+    ensures works { RunsInside S.Store drop_seals (Blob id.now ∷ Int (pos standing) ∷ [])
+        transaction.old.conn.now transaction.new.conn.now result }
 {
     let columns = clear_columns(id, standing);
     run(transaction, DROP_SEALS, &columns)?;
@@ -89,15 +75,8 @@ fn add_seals<S: Alter>(
 ) -> Result<(), OutsideErr>
     requires { before + length seals.now ≤ 64 }
     ensures same_reference { transaction.new.conn.ghost_name ≡ transaction.old.conn.ghost_name }
-    ensures added { HasCleanDisk (state S.Store transaction.new.conn.now) → OnOk result
-        (AddsSeals S.Store id.now before seals.now transaction.old.conn.now
-        transaction.new.conn.now) }
-    ensures refused { HasCleanDisk (state S.Store transaction.new.conn.now)
-        → IsTrue transaction.old.conn.now.in_transaction → IfErr result
-        (StopsAmong S.Store (adding id.now before seals.now) transaction.old.conn.now
-        transaction.new.conn.now) }
-    ensures crash { LeavesDisk S.Store transaction.old.conn.now transaction.new.conn.now }
-    ensures stays { Stays S.Store transaction.old.conn.now transaction.new.conn.now result }
+    ensures works { RunsAllInside S.Store (adding id.now before seals.now)
+        transaction.old.conn.now transaction.new.conn.now result }
 {
     for (i, seal) in seals.iter().enumerate() {
         add_seal(transaction, id, before + i as u32 + 1, seal)?;
@@ -113,15 +92,8 @@ fn add_seal<S: Alter>(
     seal: &SealTexts,
 ) -> Result<(), OutsideErr>
     ensures same_reference { transaction.new.conn.ghost_name ≡ transaction.old.conn.ghost_name }
-    ensures ran { HasCleanDisk (state S.Store transaction.new.conn.now) → OnOk result
-        (Ran S.Store keep_seal (seal_row id.now position seal.now) transaction.old.conn.now
-        transaction.new.conn.now) }
-    ensures refused { HasCleanDisk (state S.Store transaction.new.conn.now)
-        → IsTrue transaction.old.conn.now.in_transaction → IfErr result
-        (RefusesRun S.Store keep_seal (seal_row id.now position seal.now) transaction.old.conn.now
-        transaction.new.conn.now) }
-    ensures crash { LeavesDisk S.Store transaction.old.conn.now transaction.new.conn.now }
-    ensures stays { Stays S.Store transaction.old.conn.now transaction.new.conn.now result }
+    ensures works { RunsInside S.Store keep_seal (seal_row id.now position seal.now)
+        transaction.old.conn.now transaction.new.conn.now result }
 {
     let columns = seal_columns(id, position, seal);
     run(transaction, KEEP_SEAL, &columns)?;

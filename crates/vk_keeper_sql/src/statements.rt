@@ -1,11 +1,9 @@
 //! What is asked of the tables and run on them, within a transaction.
 
-ghost use Rattle.std.specs.Prelude.{◌≡◌, [], ◌∷◌, IfErr, IfOk, IsTrue, OnOk};
-ghost use Rattle.sqlite.specs.Held.{state};
-ghost use Rattle.sqlite.specs.State.{HasCleanDisk};
+ghost use Rattle.std.specs.Prelude.{◌≡◌, [], ◌∷◌};
 ghost use Rattle.sqlite.specs.Values.{bound};
 ghost use Rattle.sqlite.specs.declared.types.Value.TheVariants.{Blob};
-ghost use Rattle.vk_keeper_sql.specs.Transactions.{Answers, LeavesDisk, Ran, RefusesQuery, RefusesRun, Stays};
+ghost use Rattle.vk_keeper_sql.specs.Transactions.{Answers, RefusesQuery, RunsInside, WorksInside};
 
 use sqlite::types::ValueRef;
 use sqlite::{Alter, Row, Transaction};
@@ -35,13 +33,10 @@ pub fn rows_under<S: Alter>(
     id: &[u8; 16],
 ) -> Result<Vec<Row>, OutsideErr>
     ensures same_reference { transaction.new.conn.ghost_name ≡ transaction.old.conn.ghost_name }
-    ensures rows { HasCleanDisk (state S.Store transaction.new.conn.now) → IfOk result (λ rows.
-        Answers S.Store query.now (Blob id.now ∷ []) transaction.old.conn.now transaction.new.conn.now rows.items) }
-    ensures refused { HasCleanDisk (state S.Store transaction.new.conn.now) → IfErr result
-        (RefusesQuery S.Store query.now (Blob id.now ∷ []) transaction.old.conn.now
-        transaction.new.conn.now) }
-    ensures crash { LeavesDisk S.Store transaction.old.conn.now transaction.new.conn.now }
-    ensures stays { Stays S.Store transaction.old.conn.now transaction.new.conn.now result }
+    ensures works { WorksInside S.Store
+        (λ rows old new. Answers S.Store query.now (Blob id.now ∷ []) old new rows.items)
+        (RefusesQuery S.Store query.now (Blob id.now ∷ []))
+        transaction.old.conn.now transaction.new.conn.now result }
 {
     let rows = ask(transaction, query, &[ValueRef::Blob(id.as_slice())])?;
     Ok(rows)
@@ -54,13 +49,10 @@ pub fn ask<S: Alter>(
     columns: &[ValueRef<'_>],
 ) -> Result<Vec<Row>, OutsideErr>
     ensures same_reference { transaction.new.conn.ghost_name ≡ transaction.old.conn.ghost_name }
-    ensures rows { HasCleanDisk (state S.Store transaction.new.conn.now) → IfOk result (λ rows.
-        Answers S.Store query.now (bound columns.now) transaction.old.conn.now transaction.new.conn.now rows.items) }
-    ensures refused { HasCleanDisk (state S.Store transaction.new.conn.now) → IfErr result
-        (RefusesQuery S.Store query.now (bound columns.now) transaction.old.conn.now
-        transaction.new.conn.now) }
-    ensures crash { LeavesDisk S.Store transaction.old.conn.now transaction.new.conn.now }
-    ensures stays { Stays S.Store transaction.old.conn.now transaction.new.conn.now result }
+    ensures works { WorksInside S.Store
+        (λ rows old new. Answers S.Store query.now (bound columns.now) old new rows.items)
+        (RefusesQuery S.Store query.now (bound columns.now))
+        transaction.old.conn.now transaction.new.conn.now result }
 {
     match transaction.query_all(query, columns) {
         Ok(rows) => Ok(rows),
@@ -75,15 +67,8 @@ pub fn run<S: Alter>(
     columns: &[ValueRef<'_>],
 ) -> Result<(), OutsideErr>
     ensures same_reference { transaction.new.conn.ghost_name ≡ transaction.old.conn.ghost_name }
-    ensures ran { HasCleanDisk (state S.Store transaction.new.conn.now) → OnOk result
-        (Ran S.Store statement.now (bound columns.now) transaction.old.conn.now
-        transaction.new.conn.now) }
-    ensures refused { HasCleanDisk (state S.Store transaction.new.conn.now)
-        → IsTrue transaction.old.conn.now.in_transaction → IfErr result
-        (RefusesRun S.Store statement.now (bound columns.now) transaction.old.conn.now
-        transaction.new.conn.now) }
-    ensures crash { LeavesDisk S.Store transaction.old.conn.now transaction.new.conn.now }
-    ensures stays { Stays S.Store transaction.old.conn.now transaction.new.conn.now result }
+    ensures works { RunsInside S.Store statement.now (bound columns.now)
+        transaction.old.conn.now transaction.new.conn.now result }
 {
     match transaction.execute(statement, columns) {
         Ok(_) => Ok(()),

@@ -1,13 +1,13 @@
 //! The tables of a store as it is opened, and the number of their version.
 
-ghost use Rattle.std.specs.Prelude.{◌≡◌, false, [], ◌∷◌, Err, IfErr, IfOk, IsTrue, OnOk};
+ghost use Rattle.std.specs.Prelude.{◌≡◌, false, [], ◌∷◌, Err, IfErr, IsTrue};
 ghost use Rattle.sqlite.specs.Held.{state};
 ghost use Rattle.sqlite.specs.State.{HasCleanDisk};
 ghost use Rattle.sqlite.specs.Order.{column};
 ghost use Rattle.vk_keeper_sql.specs.Layouts.{HasLayout};
 ghost use Rattle.vk_keeper_sql.specs.Opening.{IsNumbered, MakesTables, Prepares, PreparesFrom};
-ghost use Rattle.vk_keeper_sql.specs.Transactions.{CommitsAtOnce, LeavesDisk, Stays};
-ghost use Rattle.vk_keeper_sql.specs.Unopened.{IsRefusedFor, StopsAmong, StopsCheck, StopsFrom, StopsNumber, making};
+ghost use Rattle.vk_keeper_sql.specs.Transactions.{CommitsAtOnce, StopsAmong, WorksInside, WritesInside};
+ghost use Rattle.vk_keeper_sql.specs.Unopened.{IsRefusedFor, StopsCheck, StopsFrom, StopsNumber, making};
 ghost use Rattle.vk_keeper_sql.specs.Versions.{int_of, number_by, number_of, version_of};
 
 use crate::errors::OpenErr;
@@ -82,14 +82,9 @@ fn prepare_within<S: Alter>(
     layout: Layout,
 ) -> Result<(), OpenErr>
     ensures same_reference { transaction.new.conn.ghost_name ≡ transaction.old.conn.ghost_name }
-    ensures prepared { HasCleanDisk (state S.Store transaction.new.conn.now) → OnOk result
-        (PreparesFrom S.Store layout transaction.old.conn.now transaction.new.conn.now) }
-    ensures refused { HasCleanDisk (state S.Store transaction.new.conn.now)
-        → IsTrue transaction.old.conn.now.in_transaction → IfErr result
-        (λ refusal. StopsFrom S.Store transaction.old.conn.now
-        transaction.new.conn.now refusal layout) }
-    ensures crash { LeavesDisk S.Store transaction.old.conn.now transaction.new.conn.now }
-    ensures stays { Stays S.Store transaction.old.conn.now transaction.new.conn.now result }
+    ensures works { WritesInside S.Store (PreparesFrom S.Store layout)
+        (λ old new refusal. StopsFrom S.Store old new refusal layout)
+        transaction.old.conn.now transaction.new.conn.now result }
 {
     match layout {
         Layout::Blank => make_tables(transaction)?,
@@ -109,12 +104,8 @@ fn prepare_within<S: Alter>(
 /// Errs unless the tables have that number.
 fn check_number<S: Alter>(transaction: &mut Transaction<'_, S>, number: u32) -> Result<(), OpenErr>
     ensures same_reference { transaction.new.conn.ghost_name ≡ transaction.old.conn.ghost_name }
-    ensures numbered { HasCleanDisk (state S.Store transaction.new.conn.now) → OnOk result
-        (IsNumbered S.Store number transaction.old.conn.now transaction.new.conn.now) }
-    ensures refused { HasCleanDisk (state S.Store transaction.new.conn.now) → IfErr result
-        (StopsCheck S.Store number transaction.old.conn.now transaction.new.conn.now) }
-    ensures crash { LeavesDisk S.Store transaction.old.conn.now transaction.new.conn.now }
-    ensures stays { Stays S.Store transaction.old.conn.now transaction.new.conn.now result }
+    ensures works { WorksInside S.Store (λ _. IsNumbered S.Store number) (StopsCheck S.Store number)
+        transaction.old.conn.now transaction.new.conn.now result }
 {
     if number_in(transaction)? != number {
         return Err(OpenErr::Refused);
@@ -125,13 +116,8 @@ fn check_number<S: Alter>(transaction: &mut Transaction<'_, S>, number: u32) -> 
 /// The number of the tables. Errs where it is of another version.
 fn number_in<S: Alter>(transaction: &mut Transaction<'_, S>) -> Result<u32, OpenErr>
     ensures same_reference { transaction.new.conn.ghost_name ≡ transaction.old.conn.ghost_name }
-    ensures numbered { HasCleanDisk (state S.Store transaction.new.conn.now)
-        → IfOk result (λ number.
-        IsNumbered S.Store number transaction.old.conn.now transaction.new.conn.now) }
-    ensures refused { HasCleanDisk (state S.Store transaction.new.conn.now) → IfErr result
-        (StopsNumber S.Store transaction.old.conn.now transaction.new.conn.now) }
-    ensures crash { LeavesDisk S.Store transaction.old.conn.now transaction.new.conn.now }
-    ensures stays { Stays S.Store transaction.old.conn.now transaction.new.conn.now result }
+    ensures works { WorksInside S.Store (IsNumbered S.Store) (StopsNumber S.Store)
+        transaction.old.conn.now transaction.new.conn.now result }
 {
     let rows = ask(transaction, NUMBER, &[])?;
     let number = number_from(rows.as_slice())?;
@@ -187,13 +173,8 @@ fn version_of(rows: u64, number: i64) -> Result<u32, OpenErr>
 /// Makes the four tables, and says their version.
 fn make_tables<S: Alter>(transaction: &mut Transaction<'_, S>) -> Result<(), OutsideErr>
     ensures same_reference { transaction.new.conn.ghost_name ≡ transaction.old.conn.ghost_name }
-    ensures made { HasCleanDisk (state S.Store transaction.new.conn.now) → OnOk result
-        (MakesTables S.Store transaction.old.conn.now transaction.new.conn.now) }
-    ensures refused { HasCleanDisk (state S.Store transaction.new.conn.now)
-        → IsTrue transaction.old.conn.now.in_transaction → IfErr result
-        (StopsAmong S.Store making transaction.old.conn.now transaction.new.conn.now) }
-    ensures crash { LeavesDisk S.Store transaction.old.conn.now transaction.new.conn.now }
-    ensures stays { Stays S.Store transaction.old.conn.now transaction.new.conn.now result }
+    ensures works { WritesInside S.Store (MakesTables S.Store) (StopsAmong S.Store making)
+        transaction.old.conn.now transaction.new.conn.now result }
 {
     run(transaction, MAKE_ABOUT, &[])?;
     run(transaction, MAKE_AUCTIONS, &[])?;

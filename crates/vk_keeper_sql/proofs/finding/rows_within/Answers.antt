@@ -1,65 +1,51 @@
-use Rattle.std.proofs.Common.{◌≡◌, Err, inl, inr, rules}
-use Rattle.vk_io.specs.declared.errors.OutsideErr.TheVariants.{Failed}
+use Rattle.std.proofs.Common.{inl, inr, rules}
 use Rattle.vk_keeper_sql.specs.Statements.{auction_query, terms_query, seals_query}
-use Rattle.vk_keeper_sql.proofs.AtOnce.{was_clean}
+use Rattle.vk_keeper_sql.proofs.Steps.{ask_behind, done_as, refused_as}
 use Rattle.vk_keeper_sql.proofs.finding.rows_within.Goals as goal
 
-pub returns-clause-read : goal.returns-clause-read
+pub returns-clause-works : goal.returns-clause-works
 unfolding auction_query terms_query seals_query
-returns-clause-read g c clean =
-    let two = was_clean _ _ c.rows_under-3.ensures.crash clean in
-    record {
-      one = c.rows_under.new.transaction.conn.now;
-      two = c.rows_under-2.new.transaction.conn.now;
+returns-clause-works g c =
+    done_as (ask_behind c.in_ok-heads.ensures.works
+    (ask_behind c.in_ok-terms.ensures.works c.in_ok-seals.ensures.works)) (λ all. record {
+      one = all.0;
+      two = all.2.0;
       last = c.rows_under-3.new.transaction.conn.now;
-      head = c.in_ok-heads.ensures.rows (was_clean _ _ c.rows_under-2.ensures.crash two);
-      term = c.in_ok-terms.ensures.rows two;
-      seals = c.in_ok-seals.ensures.rows clean;
-    }
+      head = all.1;
+      term = all.2.1;
+      seals = all.2.2;
+    })
 
-pub returns-in_err-heads-clause-refused : goal.returns-in_err-heads-clause-refused
+pub returns-in_err-heads-clause-works : goal.returns-in_err-heads-clause-works
 unfolding auction_query
-returns-in_err-heads-clause-refused g c clean failed =
-    let is : c.rows_under.result ≡ Err Failed = search (rules, failed) in (
-      c.rows_under.new.transaction.conn.now,
-      inl (rw is at (c.rows_under.ensures.refused clean)),
-    )
+returns-in_err-heads-clause-works g c =
+    refused_as c.in_err-heads.field-0.0 c.in_err-heads.ensures.works
+    (λ why failed. (c.rows_under.new.transaction.conn.now, inl (rw failed at why))) (search rules)
 
-pub returns-in_err-terms-clause-refused : goal.returns-in_err-terms-clause-refused
+pub returns-in_err-terms-clause-works : goal.returns-in_err-terms-clause-works
 unfolding auction_query terms_query
-returns-in_err-terms-clause-refused g c clean failed =
-    let one = was_clean _ _ c.rows_under-2.ensures.crash clean in
-    let is : c.rows_under-2.result ≡ Err Failed = search (rules, failed) in (
-      c.rows_under.new.transaction.conn.now,
-      inr (
-        c.in_ok-heads.heads.items,
-        c.in_ok-heads.ensures.rows one,
-        (
-          c.rows_under-2.new.transaction.conn.now,
-          inl (rw is at (c.rows_under-2.ensures.refused clean)),
-        ),
-      ),
-    )
+returns-in_err-terms-clause-works g c =
+    refused_as c.in_err-terms.field-0.0
+    (ask_behind c.in_ok-heads.ensures.works c.in_err-terms.ensures.works)
+    (λ why failed. (
+      why.0,
+      inr (c.in_ok-heads.heads.items, why.1, (c.rows_under-2.new.transaction.conn.now, inl (rw failed at why.2))),
+    )) (search rules)
 
-pub returns-in_err-seals-clause-refused : goal.returns-in_err-seals-clause-refused
+pub returns-in_err-seals-clause-works : goal.returns-in_err-seals-clause-works
 unfolding auction_query terms_query seals_query
-returns-in_err-seals-clause-refused g c clean failed =
-    let two = was_clean _ _ c.rows_under-3.ensures.crash clean in
-    let is : c.rows_under-3.result ≡ Err Failed = search (rules, failed) in (
-      c.rows_under.new.transaction.conn.now,
+returns-in_err-seals-clause-works g c =
+    refused_as c.in_err-seals.field-0.0
+    (ask_behind c.in_ok-heads.ensures.works
+    (ask_behind c.in_ok-terms.ensures.works c.in_err-seals.ensures.works))
+    (λ why failed. (
+      why.0,
       inr (
         c.in_ok-heads.heads.items,
-        c.in_ok-heads.ensures.rows (was_clean _ _ c.rows_under-2.ensures.crash two),
+        why.1,
         (
-          c.rows_under-2.new.transaction.conn.now,
-          inr (
-            c.in_ok-terms.terms.items,
-            c.in_ok-terms.ensures.rows two,
-            (
-              c.rows_under-3.new.transaction.conn.now,
-              rw is at (c.rows_under-3.ensures.refused clean),
-            ),
-          ),
+          why.2.0,
+          inr (c.in_ok-terms.terms.items, why.2.1, (c.rows_under-3.new.transaction.conn.now, rw failed at why.2.2)),
         ),
       ),
-    )
+    )) (search rules)

@@ -1,56 +1,52 @@
-use Rattle.std.proofs.Common.{◌≡◌, ◌∙◌, Err, arith, rules}
-use Rattle.sqlite.specs.Held.{state}
-use Rattle.sqlite.specs.State.{HasCleanDisk}
-use Rattle.sqlite.proofs.InsideLemmas.{keeps_then}
-use Rattle.sqlite.proofs.StateLemmas.{survives_then}
-use Rattle.vk_keeper_sql.proofs.AtOnce.{was_clean}
-use Rattle.vk_keeper_sql.proofs.Inside.{stops_then}
-use Rattle.vk_keeper_sql.proofs.Lists.{terms_next, terms_stop}
+use Rattle.std.proofs.Common.{◌≡◌, ◌∙◌, ◌<◌, ℕ, List, ap, arith, get_or, length, rules, sym}
+use Rattle.std.proofs.lemmas.List.{get_or-map, length-map, take_all}
+use Rattle.sqlite.specs.Order.{Row, column}
+use Rattle.vk_keeper_sql.specs.Opening.{filling, first_terms}
+use Rattle.vk_keeper_sql.specs.Statements.{keep_terms}
+use Rattle.vk_keeper_sql.specs.Transactions.{Step}
+use Rattle.vk_keeper_sql.proofs.Steps.{next_refused, next_run, none_run}
 use Rattle.vk_keeper_sql.proofs.lifting.add_terms.Goals as goal
+
+abbrev one_filling : Row → Step
+one_filling row = (keep_terms, first_terms (column row 0))
+
+length-filling : (ids : List Row) → length (filling ids) ≡ length ids
+length-filling ids = length-map ids one_filling
+
+get_or-filling : (ids : List Row) (i : ℕ) (row : Row) → i < length ids → row ≡ get_or ids i row
+    → one_filling row ≡ get_or (filling ids) i (one_filling row)
+get_or-filling ids i row within is =
+    ap one_filling is ∙ sym (get_or-map one_filling ids i row (one_filling row) within)
+
+pub loop-row-init : goal.loop-row-init
+loop-row-init g c = record { same_reference = search rules; works = none_run }
 
 pub loop-row-preserved : goal.loop-row-preserved
 loop-row-preserved g c =
-    let first = c.args.transaction.now.conn.now in
-    let mid = c.loop-row.transaction.conn.now in
-    let last = c.add_first_terms.new.transaction.conn.now in
+    let ids = c.args.ids.now in
+    let i = c.loop-row.row-index in
+    let row = c.row-item.result in
     record {
       same_reference = c.add_first_terms.ensures.same_reference
           ∙ c.loop-row.invariant.same_reference;
-      added = λ clean.
-          let was : HasCleanDisk (state g.S.Store mid) =
-          omega (arith, c.add_first_terms.ensures.crash.clean) in
-          terms_next g.S.Store c.args.ids.now c.loop-row.row-index c.row-item.result first mid last
-          c.loop-row-test.true c.row-item.is
-          (c.loop-row.invariant.added was) (c.in_ok-add_first_terms.ensures.ran clean);
-      crash = survives_then (state g.S.Store first) (state g.S.Store mid) (state g.S.Store last) _ _
-          _ (λ _ db no. no) (λ _ db no. no) c.loop-row.invariant.crash
-          c.add_first_terms.ensures.crash;
-      stays = λ clean inside.
-          let was : HasCleanDisk (state g.S.Store mid) =
-          omega (arith, c.add_first_terms.ensures.crash.clean) in
-          let before = c.loop-row.invariant.stays was inside in
-          let step = c.in_ok-add_first_terms.ensures.stays clean before.1 in
-          (keeps_then _ _ _ before.0 step.kept, step.inside);
+      works = next_run (filling ids) i (one_filling row)
+          (omega (arith, length-filling ids, c.loop-row-test.true))
+          (get_or-filling ids i row c.loop-row-test.true c.row-item.is)
+          c.loop-row.invariant.works c.in_ok-add_first_terms.ensures.works;
     }
 
-pub returns-in_err-add_first_terms-clause-stays : goal.returns-in_err-add_first_terms-clause-stays
-returns-in_err-add_first_terms-clause-stays g c clean inside =
-    let was = was_clean _ _ c.add_first_terms.ensures.crash clean in
-    let before = c.loop-row.invariant.stays was inside in
-    stops_then _ _ _ c.add_first_terms.result c.from_residual.result c.from_residual.ensures.0 before.0
-    (c.add_first_terms.ensures.stays clean before.1)
+pub returns-in_err-add_first_terms-clause-works : goal.returns-in_err-add_first_terms-clause-works
+returns-in_err-add_first_terms-clause-works g c =
+    let ids = c.args.ids.now in
+    let i = c.loop-row.row-index in
+    let row = c.row-item.result in
+    next_refused (filling ids) i (one_filling row)
+    (omega (arith, length-filling ids, c.loop-row-test.true))
+    (get_or-filling ids i row c.loop-row-test.true c.row-item.is)
+    c.loop-row.invariant.works c.in_err-add_first_terms.ensures.works (search rules)
 
-pub returns-clause-stays : goal.returns-clause-stays
-returns-clause-stays g c clean inside =
-    let kept = c.loop-row.invariant.stays clean inside in
-    record { kept = kept.0; inside = kept.1 }
-
-pub returns-in_err-add_first_terms-clause-refused :
-    goal.returns-in_err-add_first_terms-clause-refused
-returns-in_err-add_first_terms-clause-refused g c clean inside =
-    let is : c.from_residual.result ≡ Err c.in_err-add_first_terms.field-0.0 = search rules in
-    let was = was_clean _ _ c.add_first_terms.ensures.crash clean in
-    let before = c.loop-row.invariant.stays was inside in
-    rw is (terms_stop g.S.Store c.args.ids.now c.loop-row.row-index c.row-item.result _ _ _ _
-    c.loop-row-test.true c.row-item.is (c.loop-row.invariant.added was)
-    (c.in_err-add_first_terms.ensures.refused clean before.1))
+pub returns-clause-works : goal.returns-clause-works
+returns-clause-works g c =
+    rw (take_all c.loop-row.row-index (filling c.args.ids.now)
+    (omega (arith, length-filling c.args.ids.now, c.loop-row-test.false)))
+    at c.loop-row.invariant.works

@@ -1,62 +1,47 @@
-use Rattle.std.proofs.Common.{◌≡◌, Err, arith, rules}
-use Rattle.sqlite.specs.Held.{state}
-use Rattle.sqlite.specs.State.{HasCleanDisk}
+use Rattle.std.proofs.Common.{rules}
 use Rattle.vk_keeper_sql.specs.Statements.{seals_query}
 use Rattle.vk_keeper_sql.specs.Unkept.{query_refused, clear_refused, add_refused}
-use Rattle.vk_keeper_sql.proofs.AtOnce.{was_clean}
+use Rattle.vk_keeper_sql.proofs.Steps.{done_as, refused_as, run_behind, stopped_as}
 use Rattle.vk_keeper_sql.proofs.seals.write_seals.Goals as goal
 
-pub returns-clause-wrote : goal.returns-clause-wrote
+pub returns-clause-works : goal.returns-clause-works
 unfolding seals_query
-returns-clause-wrote g c clean =
-    let asked : HasCleanDisk (state g.S.Store c.rows_under.new.transaction.conn.now) =
-    omega (arith, c.clear_seals.ensures.crash.clean, c.add_seals.ensures.crash.clean) in
-    let cleared : HasCleanDisk (state g.S.Store c.clear_seals.new.transaction.conn.now) =
-    omega (arith, c.add_seals.ensures.crash.clean) in
-    record {
-      asked = c.rows_under.new.transaction.conn.now;
-      cleared = c.clear_seals.new.transaction.conn.now;
+returns-clause-works g c =
+    done_as (run_behind c.in_ok-held.ensures.works (run_behind c.in_ok-clear_seals.ensures.works
+    (rw c.split_at.ensures.back at c.in_ok-add_seals.ensures.works))) (λ all. record {
+      asked = all.0;
+      cleared = all.2.0;
       held = c.in_ok-held.held.items;
       standing = c.count_standing-standing.result;
-      query = c.in_ok-held.ensures.rows asked;
+      query = all.1;
       within = c.count_standing-standing.ensures.within;
       stand = rw c.as_slice.ensures.value at c.count_standing-standing.ensures.stand;
-      clear = c.in_ok-clear_seals.ensures.ran cleared;
-      add = rw c.split_at.ensures.back at (c.in_ok-add_seals.ensures.added clean);
-    }
+      clear = all.2.1;
+      add = all.2.2;
+    })
 
-pub returns-in_err-held-clause-refused : goal.returns-in_err-held-clause-refused
+pub returns-in_err-held-clause-works : goal.returns-in_err-held-clause-works
 unfolding seals_query
-returns-in_err-held-clause-refused g c clean inside =
-    let is : c.from_residual.result ≡ Err c.in_err-held.field-0.0 = search rules in
-    rw is (query_refused (c.in_err-held.ensures.refused clean))
+returns-in_err-held-clause-works g c =
+    refused_as c.in_err-held.field-0.0 c.in_err-held.ensures.works
+    (λ why. record { stops = λ _. query_refused why }) (search rules)
 
-pub returns-in_err-clear_seals-clause-refused : goal.returns-in_err-clear_seals-clause-refused
+pub returns-in_err-clear_seals-clause-works : goal.returns-in_err-clear_seals-clause-works
 unfolding seals_query
-returns-in_err-clear_seals-clause-refused g c clean inside =
-    let is : c.from_residual-in_err-clear_seals.result ≡ Err c.in_err-clear_seals.field-0.0 =
-    search rules in
-    let asked = was_clean _ _ c.clear_seals.ensures.crash clean in
-    let in_asked = (c.in_ok-held.ensures.stays asked inside).inside in
-    rw is (clear_refused c.rows_under.new.transaction.conn.now c.in_ok-held.held.items
-    c.count_standing-standing.result (c.in_ok-held.ensures.rows asked)
+returns-in_err-clear_seals-clause-works g c =
+    stopped_as c.in_err-clear_seals.field-0.0
+    (run_behind c.in_ok-held.ensures.works c.in_err-clear_seals.ensures.works)
+    (λ why. clear_refused why.0 c.in_ok-held.held.items c.count_standing-standing.result why.1
     c.count_standing-standing.ensures.within
-    (rw c.as_slice.ensures.value at c.count_standing-standing.ensures.stand)
-    (c.in_err-clear_seals.ensures.refused clean in_asked))
+    (rw c.as_slice.ensures.value at c.count_standing-standing.ensures.stand) why.2) (search rules)
 
-pub returns-in_err-add_seals-clause-refused : goal.returns-in_err-add_seals-clause-refused
+pub returns-in_err-add_seals-clause-works : goal.returns-in_err-add_seals-clause-works
 unfolding seals_query
-returns-in_err-add_seals-clause-refused g c clean inside =
-    let is : c.from_residual-in_err-add_seals.result ≡ Err c.in_err-add_seals.field-0.0 =
-    search rules in
-    let cleared = was_clean _ _ c.add_seals.ensures.crash clean in
-    let asked = was_clean _ _ c.clear_seals.ensures.crash cleared in
-    let in_asked = (c.in_ok-held.ensures.stays asked inside).inside in
-    let in_cleared = (c.in_ok-clear_seals.ensures.stays cleared in_asked).inside in
-    rw is (add_refused c.rows_under.new.transaction.conn.now
-    c.clear_seals.new.transaction.conn.now c.in_ok-held.held.items
-    c.count_standing-standing.result (c.in_ok-held.ensures.rows asked)
-    c.count_standing-standing.ensures.within
-    (rw c.as_slice.ensures.value at c.count_standing-standing.ensures.stand)
-    (c.in_ok-clear_seals.ensures.ran cleared)
-    (rw c.split_at.ensures.back at (c.in_err-add_seals.ensures.refused clean in_cleared)))
+returns-in_err-add_seals-clause-works g c =
+    stopped_as c.in_err-add_seals.field-0.0
+    (run_behind c.in_ok-held.ensures.works (run_behind c.in_ok-clear_seals.ensures.works
+    (rw c.split_at.ensures.back at c.in_err-add_seals.ensures.works)))
+    (λ why. add_refused why.0 why.2.0 c.in_ok-held.held.items c.count_standing-standing.result
+    why.1 c.count_standing-standing.ensures.within
+    (rw c.as_slice.ensures.value at c.count_standing-standing.ensures.stand) why.2.1 why.2.2)
+    (search rules)
