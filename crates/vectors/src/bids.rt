@@ -1,8 +1,7 @@
 // Lists of bids, and the outcome of each.
 ghost use Rattle.std.specs.Prelude.{◌≤◌, length};
 
-use crate::text::Text;
-use vk_cases::{Tried, Unreplayed};
+use vk_cases::{Text, Tried, Unreplayed};
 use vk_vickrey::outcome;
 
 /// The position of the winner, and the price.

@@ -5,9 +5,8 @@ ghost use Rattle.vk_coin.specs.Coins.{IsCoin};
 
 use crate::parts::{part_at, parts_of};
 use crate::shares::bits_in;
-use crate::text::Text;
 use std::alloc::Global;
-use vk_cases::{Tried, Unreplayed, word_at};
+use vk_cases::{Text, Tried, Unreplayed, word_at};
 use vk_coin::{Coin, JointErr, Share, joint, own_bits, read_coin, share_commit};
 use vk_io::MemShelf;
 use vk_lines::Lines;
@@ -20,7 +19,7 @@ const AUCTION: [u8; 16] = [0x42; 16];
 const KEY: [u8; 32] = [0x4b; 32];
 
 /// The case, and the bits of all auditors together, or those of the one auditor.
-pub fn put_bits(alloc: Global, text: &mut Text, case: &[u8]) -> Tried<()> {
+pub fn put_coins(alloc: Global, text: &mut Text, case: &[u8]) -> Tried<()> {
     text.put(case);
     if word_at(case, 0)? == b"own".as_slice() {
         put_own(alloc, text, case)

@@ -3,9 +3,8 @@
 ghost use Rattle.std.specs.Prelude.{◌≤◌, length};
 
 use crate::sales::values_of;
-use crate::text::Text;
 use std::alloc::Global;
-use vk_cases::{Tried, Unreplayed, number_at};
+use vk_cases::{Text, Tried, Unreplayed, number_at};
 use vk_matching::{MatchingPlan, propose};
 use vk_plan::{Circuit, Plan};
 use vk_residue::Residue;

@@ -2,9 +2,8 @@
 ghost use Rattle.std.specs.Prelude.{◌≡◌, ◌%◌, IfOk};
 
 use crate::parts::part_at;
-use crate::text::Text;
 use crate::wires::wire_of;
-use vk_cases::Tried;
+use vk_cases::{Text, Tried};
 use vk_commit::Place;
 use vk_wire::{Opened, Shown, hash_four, show};
 

@@ -5,11 +5,10 @@ ghost use Rattle.vk_plan.specs.Plans.{Holds};
 ghost use Rattle.vk_vickrey.specs.VickreyPlans.{vickrey_plan};
 
 use crate::parts::{part_at, parts_of};
-use crate::text::Text;
 use crate::views::put_moved;
 use crate::wires::{put_shown, tape_of};
 use std::alloc::Global;
-use vk_cases::{Tried, Unreplayed, number_at};
+use vk_cases::{Text, Tried, Unreplayed, number_at};
 use vk_lines::{behind_word, fields};
 use vk_plan::{Circuit, Plan};
 use vk_prover::LaneTape;

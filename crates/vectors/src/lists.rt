@@ -1,7 +1,6 @@
 // Lists of words, and the residue that is drawn from each.
-use crate::text::Text;
 use std::alloc::Global;
-use vk_cases::{Tried, numbers_in};
+use vk_cases::{Text, Tried, numbers_in};
 use vk_dice::{ListWords, Words, draw_residue};
 
 /// How many words a draw looks at, at most.

@@ -13,15 +13,13 @@ mod parts;
 mod sales;
 mod shares;
 mod streams;
-mod text;
 mod units;
 mod views;
 mod wires;
 
-use crate::text::Text;
 use std::alloc::Global;
 use std::process::ExitCode;
-use vk_cases::{Form, Tried, Unreplayed, numbers_in, replay_forms, word_at};
+use vk_cases::{Form, Text, Tried, Unreplayed, numbers_in, replay_forms, word_at};
 use vk_io::Shelf;
 
 /// What a file of cases has, one case a line.
@@ -97,7 +95,7 @@ fn put_case(alloc: Global, text: &mut Text, form: &Cases, case: &[u8]) -> Tried<
         Cases::Fours => fours::put_four(text, case),
         Cases::Eithers => couples::put_either(alloc, text, case),
         Cases::Shares => shares::put_share(alloc, text, case),
-        Cases::Coins => coins::put_bits(alloc, text, case),
+        Cases::Coins => coins::put_coins(alloc, text, case),
         Cases::Views => views::put_view(text, case),
         Cases::Lanes => lanes::put_lane(alloc, text, case),
         _ => put_listed(alloc, text, form, case),

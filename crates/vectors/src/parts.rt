@@ -1,5 +1,5 @@
 // The parts of a case.
-use vk_cases::{Tried, Unreplayed};
+use vk_cases::{Tried, Unreplayed, before, behind, place_of};
 
 /// How many parts there are with that byte between them: one more than it stands there.
 pub fn parts_of(bytes: &[u8], mark: u8) -> usize {
@@ -14,8 +14,13 @@ pub fn parts_of(bytes: &[u8], mark: u8) -> usize {
 
 /// The part at that place, from 0, of those with that byte between them.
 pub fn part_at(bytes: &[u8], mark: u8, place: usize) -> Tried<&[u8]> {
-    bytes
-        .split(|byte| *byte == mark)
-        .nth(place)
-        .ok_or(Unreplayed::NoCase)
+    let mut rest = bytes;
+    for _ in 0..place {
+        let end = place_of(rest, mark);
+        if end == rest.len() {
+            return Err(Unreplayed::NoCase);
+        }
+        rest = behind(rest, end.saturating_add(1));
+    }
+    Ok(before(rest, place_of(rest, mark)))
 }

@@ -2,9 +2,8 @@
 // rows where another sale is published.
 ghost use Rattle.std.specs.Prelude.{◌≡◌, ◌<◌, ◌≤◌, length};
 
-use crate::text::Text;
 use std::alloc::Global;
-use vk_cases::{Tried, Unreplayed, number_at, word_at};
+use vk_cases::{Text, Tried, Unreplayed, number_at, word_at};
 use vk_plan::{Circuit, Plan};
 use vk_residue::Residue;
 use vk_vickrey::{BoardPlan, Sale, sale_of};

@@ -2,9 +2,8 @@
 // drawn from a seed.
 ghost use Rattle.std.specs.Prelude.{◌≤◌, IfOk, length};
 
-use crate::text::Text;
 use std::alloc::Global;
-use vk_cases::{Tried, Unreplayed, id_at, key_at, number_at, word_at};
+use vk_cases::{Text, Tried, Unreplayed, id_at, key_at, number_at, word_at};
 use vk_coin::{Share, draw_share, share_commit};
 use vk_dice::ChaChaWords;
 use vk_reply::bits_of;

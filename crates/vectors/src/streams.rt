@@ -1,6 +1,5 @@
 // Streams of words: the first of them, some far ones, and what is drawn from the start.
-use crate::text::Text;
-use vk_cases::{Tried, Unreplayed, id_at, key_at, number_at};
+use vk_cases::{Text, Tried, Unreplayed, id_at, key_at, number_at};
 use vk_dice::{ChaChaWords, Words, draw_bit, draw_key, draw_residue};
 
 /// The case, and what its stream gives.

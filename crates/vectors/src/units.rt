@@ -3,9 +3,8 @@
 ghost use Rattle.std.specs.Prelude.{◌≤◌, length};
 
 use crate::sales::put_size;
-use crate::text::Text;
 use std::alloc::Global;
-use vk_cases::{Tried, Unreplayed, number_at};
+use vk_cases::{Text, Tried, Unreplayed, number_at};
 use vk_plan::{Circuit, Plan};
 use vk_uniform::{UniformOutcome, UniformPlan, uniform};
 

@@ -1,9 +1,8 @@
 // Single wires: the tape moved from one value to another, and what both show.
 ghost use Rattle.vk_plan.specs.Plans.{HasWeight, MayHave};
 
-use crate::text::Text;
 use crate::wires::{kind_of, put_shown, put_words, tape_of, value_at};
-use vk_cases::Tried;
+use vk_cases::{Text, Tried};
 use vk_plan::WireKind;
 use vk_residue::Residue;
 use vk_views::moved_wire;

@@ -3,8 +3,7 @@ ghost use Rattle.std.specs.Prelude.{◌≡◌, ◌≤◌, ◌%◌, IfOk};
 ghost use Rattle.vk_plan.specs.Plans.{HasWeight, MayHave};
 ghost use Rattle.vk_wire.specs.Values.{CanBeMade};
 
-use crate::text::Text;
-use vk_cases::{Tried, Unreplayed, id_at, key_at, number_at, residue_at, word_at};
+use vk_cases::{Text, Tried, Unreplayed, id_at, key_at, number_at, residue_at, word_at};
 use vk_commit::{Opening, Place};
 use vk_plan::WireKind;
 use vk_residue::Residue;

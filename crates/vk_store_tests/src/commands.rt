@@ -5,11 +5,11 @@ ghost use Rattle.vk_reply.specs.Values.{IsChallenge};
 ghost use Rattle.vk_seal.specs.Values.{IsSeal, IsSecret};
 ghost use Rattle.vk_keeper.specs.Auctions.{IsAuction};
 
-use crate::texts::{answered_text, found_text, owned, proved_text, refused_text, text_in};
+use crate::texts::{put_answered, put_found, put_proved, put_refused};
 use std::alloc::Global;
-use vk_cases::{Tried, Unreplayed, number_at, word_at};
+use vk_cases::{Text, Tried, Unreplayed, number_at, text_in, word_at};
 use vk_dice::ChaChaWords;
-use vk_house::House;
+use vk_house::{House, HouseErr};
 use vk_keeper::{Auction, Keeper, MemKeeper};
 use vk_reply::{Challenge, bits_of};
 use vk_seal::{Seal, Secret, make_seal};
@@ -34,22 +34,31 @@ pub enum Task<'a> {
 }
 
 impl Task<'_> {
-    /// What the keeper answers.
-    pub fn done<K: Keeper + Drop>(&self, alloc: Global, keeper: &mut K) -> Tried<String> {
+    /// Puts behind the text what the keeper answers.
+    pub fn put_done<K: Keeper + Drop>(
+        &self,
+        alloc: Global,
+        keeper: &mut K,
+        text: &mut Text,
+    ) -> Tried<()> {
         match self {
             Task::Run(_) => Err(Unreplayed::NoCase),
-            Task::Find => kept_anew(alloc, keeper),
-            Task::Command(command) => commanded(alloc, keeper, command),
+            Task::Find => put_kept_anew(alloc, keeper, text),
+            Task::Command(command) => {
+                let (id, command) = named(command)?;
+                put_commanded(alloc, keeper, text, &id, command)
+            }
         }
     }
 }
 
-/// The auction that is found before it is kept anew, and whether it is the same after.
-fn kept_anew<K: Keeper + Drop>(alloc: Global, keeper: &mut K) -> Tried<String> {
-    let before = found(alloc, keeper, &ID)?;
+/// The auction that is found before it is kept anew, and what is found after where that is
+/// something else or it wasn't kept.
+fn put_kept_anew<K: Keeper + Drop>(alloc: Global, keeper: &mut K, text: &mut Text) -> Tried<()> {
+    put_kept(keeper, text, &ID)?;
     match keep_anew(keeper) {
-        Some(is_kept) => kept_after(alloc, keeper, before, is_kept),
-        None => Ok(before),
+        Some(is_kept) => put_behind(alloc, keeper, text, is_kept),
+        None => Ok(()),
     }
 }
 
@@ -57,55 +66,71 @@ fn kept_anew<K: Keeper + Drop>(alloc: Global, keeper: &mut K) -> Tried<String> {
 fn keep_anew<K: Keeper + Drop>(keeper: &mut K) -> Option<bool> {
     match keeper.get(&ID) {
         Ok(Some(auction)) => Some(keeper.put(auction).is_ok()),
-        _ => None,
+        Ok(None) => None,
+        Err(_refusal) => None,
     }
 }
 
-/// What was found before, and what is found now where that is something else or it wasn't kept.
-fn kept_after<K: Keeper + Drop>(
+/// What is found now, behind what was found before, where that is something else or it wasn't kept.
+fn put_behind<K: Keeper + Drop>(
     alloc: Global,
     keeper: &mut K,
-    before: String,
+    text: &mut Text,
     is_kept: bool,
-) -> Tried<String> {
-    let after = found(alloc, keeper, &ID)?;
-    if is_kept && after.as_str() == before.as_str() {
-        return Ok(before);
+) -> Tried<()> {
+    let mut after = Text::new(alloc);
+    let put = put_kept(keeper, &mut after, &ID);
+    match put {
+        Ok(()) => put_other(text, &after, is_kept),
+        Err(unreplayed) => Err(unreplayed),
     }
-    Ok(format!(in alloc; "{before}, then {after}")?)
+}
+
+/// The other text behind this one, where it is something else or it wasn't kept.
+fn put_other(text: &mut Text, after: &Text, is_kept: bool) -> Tried<()> {
+    let after = after.bytes()?;
+    if !is_kept || after != text.bytes()? {
+        text.put(b", then ");
+        text.put(after);
+    }
+    Ok(())
 }
 
 /// What the keeper finds.
-fn found<K: Keeper + Drop>(alloc: Global, keeper: &mut K, id: &[u8; 16]) -> Tried<String> {
+fn put_kept<K: Keeper + Drop>(keeper: &mut K, text: &mut Text, id: &[u8; 16]) -> Tried<()> {
     let found = keeper.get(id);
-    let text = found_text(alloc, &found);
-    text
+    let put = put_found(text, &found);
+    put
 }
 
-/// What is answered to a command, of the auction that it names.
-fn commanded<K: Keeper + Drop>(alloc: Global, keeper: &mut K, command: &[u8]) -> Tried<String> {
+/// The id of the auction that a command names, and the command behind that.
+fn named(command: &[u8]) -> Tried<([u8; 16], &[u8])> {
     if text_in(word_at(command, 0)?)? != "of" {
-        return answered(alloc, keeper, &ID, command);
+        return Ok((ID, command));
     }
     let mut id = ID;
     id[15] = number_at(command, 1, 255)? as u8;
     let behind = behind_word(behind_word(command).trim_ascii());
-    answered(alloc, keeper, &id, behind.trim_ascii())
+    Ok((id, behind.trim_ascii()))
 }
 
 /// What is answered to a command of that auction.
-fn answered<K: Keeper + Drop>(
+fn put_commanded<K: Keeper + Drop>(
     alloc: Global,
     keeper: &mut K,
+    text: &mut Text,
     id: &[u8; 16],
     command: &[u8],
-) -> Tried<String> {
+) -> Tried<()> {
     if text_in(word_at(command, 0)?)? != "keep" {
-        return housed(alloc, keeper, id, command);
+        return put_housed(alloc, keeper, text, id, command);
     }
     let auction = made(alloc, id, behind_word(command))?;
-    let is_kept = keeper.put(auction).is_ok();
-    owned(alloc, if is_kept { "kept" } else { "fault" })
+    match keeper.put(auction) {
+        Ok(()) => text.put(b"kept"),
+        Err(_refusal) => text.put(b"fault"),
+    }
+    Ok(())
 }
 
 /// What stands behind the first word.
@@ -124,7 +149,8 @@ fn made(alloc: Global, id: &[u8; 16], commands: &[u8]) -> Tried<Auction>
     ensures { IfOk result IsAuction }
 {
     let mut keeper = MemKeeper::new(alloc);
-    let made = made_in(alloc, &mut keeper, id, commands);
+    let mut said = Text::new(alloc);
+    let made = made_in(alloc, &mut keeper, &mut said, id, commands);
     made
 }
 
@@ -132,13 +158,14 @@ fn made(alloc: Global, id: &[u8; 16], commands: &[u8]) -> Tried<Auction>
 fn made_in<K: Keeper + Drop>(
     alloc: Global,
     keeper: &mut K,
+    said: &mut Text,
     id: &[u8; 16],
     commands: &[u8],
 ) -> Tried<Auction>
     ensures { IfOk result IsAuction }
 {
     for command in commands.split(|byte| *byte == b',') {
-        let _said = housed(alloc, keeper, id, command.trim_ascii())?;
+        put_housed(alloc, keeper, said, id, command.trim_ascii())?;
     }
     match keeper.get(id) {
         Ok(Some(auction)) => Ok(auction),
@@ -148,47 +175,55 @@ fn made_in<K: Keeper + Drop>(
 }
 
 /// What a house answers to a command.
-fn housed<K: Keeper + Drop>(
+fn put_housed<K: Keeper + Drop>(
     alloc: Global,
     keeper: &mut K,
+    text: &mut Text,
     id: &[u8; 16],
     command: &[u8],
-) -> Tried<String> {
+) -> Tried<()> {
     match text_in(word_at(command, 0)?)? {
-        "announce" => announced(alloc, keeper, id, command),
-        "submit" => submitted(alloc, keeper, id, command),
-        "prove" => proved(alloc, keeper, id),
-        "answer" => answered_to(alloc, keeper, id, word_at(command, 1)?),
-        "find" => found(alloc, keeper, id),
+        "announce" => put_announced(alloc, keeper, text, id, command),
+        "submit" => put_submitted(alloc, keeper, text, id, command),
+        "prove" => prove(alloc, keeper, text, id),
+        "answer" => answer(alloc, keeper, text, id, word_at(command, 1)?),
+        "find" => put_kept(keeper, text, id),
         _ => Err(Unreplayed::NoCase),
     }
 }
 
-fn proved<K: Keeper + Drop>(alloc: Global, keeper: &mut K, id: &[u8; 16]) -> Tried<String> {
+fn prove<K: Keeper + Drop>(
+    alloc: Global,
+    keeper: &mut K,
+    text: &mut Text,
+    id: &[u8; 16],
+) -> Tried<()> {
     let proved = House::over(keeper).prove(alloc, id, &SEED);
-    let text = proved_text(alloc, &proved);
-    text
+    let put = put_proved(text, &proved);
+    put
 }
 
 /// What is answered to the challenge of these bits.
-fn answered_to<K: Keeper + Drop>(
+fn answer<K: Keeper + Drop>(
     alloc: Global,
     keeper: &mut K,
+    text: &mut Text,
     id: &[u8; 16],
     bits: &[u8],
-) -> Tried<String> {
+) -> Tried<()> {
     let challenge = challenge_of(alloc, bits)?;
     let answered = House::over(keeper).answer(alloc, id, &challenge);
-    let text = answered_text(alloc, &answered);
-    text
+    let put = put_answered(text, &answered);
+    put
 }
 
-fn announced<K: Keeper + Drop>(
+fn put_announced<K: Keeper + Drop>(
     alloc: Global,
     keeper: &mut K,
+    text: &mut Text,
     id: &[u8; 16],
     command: &[u8],
-) -> Tried<String> {
+) -> Tried<()> {
     let width = number_at(command, 1, 40)? as u32;
     let lanes = number_at(command, 2, 64)? as u32;
     if width == 0 || lanes == 0 {
@@ -201,19 +236,29 @@ fn announced<K: Keeper + Drop>(
         let reserve = number_at(command, 3, (1 << width) - 1)?;
         house.announce_reserve(alloc, id, width, lanes, reserve)
     };
+    let put = put_announcement(text, &announced);
+    put
+}
+
+/// What a house answers to an announcement.
+fn put_announcement(text: &mut Text, announced: &Result<(), HouseErr>) -> Tried<()> {
     match announced {
-        Ok(()) => Ok(String::from_str(alloc, "announced")?),
-        Err(refusal) => refused_text(alloc, &refusal),
+        Ok(()) => {
+            text.put(b"announced");
+            Ok(())
+        }
+        Err(refusal) => put_refused(text, refusal),
     }
 }
 
 /// The seal of the seat and its secret, made for the auction that is kept, are handed in.
-fn submitted<K: Keeper + Drop>(
+fn put_submitted<K: Keeper + Drop>(
     alloc: Global,
     keeper: &mut K,
+    text: &mut Text,
     id: &[u8; 16],
     command: &[u8],
-) -> Tried<String> {
+) -> Tried<()> {
     let seat = number_at(command, 1, 65535)? as u16;
     let bid = number_at(command, 2, u64::MAX)?;
     let (width, lanes) = size_of(keeper, id)?;
@@ -222,25 +267,35 @@ fn submitted<K: Keeper + Drop>(
     }
     let mut words = ChaChaWords::of(&SEED, id, 65536 + u64::from(seat));
     match make_seal(alloc, bid, seat, id, width, lanes, &mut words) {
-        Ok((secret, seal)) => handed_in(alloc, keeper, id, seal, secret),
+        Ok((secret, seal)) => hand_in(keeper, text, id, seal, secret),
         Err(_refused) => Err(Unreplayed::NoCase),
     }
 }
 
 /// The seal and its secret are handed in.
-fn handed_in<K: Keeper + Drop>(
-    alloc: Global,
+fn hand_in<K: Keeper + Drop>(
     keeper: &mut K,
+    text: &mut Text,
     id: &[u8; 16],
     seal: Seal,
     secret: Secret,
-) -> Tried<String>
+) -> Tried<()>
     requires seal { IsSeal seal }
     requires secret { IsSecret secret }
 {
-    match House::over(keeper).submit(id, seal, secret) {
-        Ok(position) => Ok(format!(in alloc; "position {position}")?),
-        Err(refusal) => refused_text(alloc, &refusal),
+    let position = House::over(keeper).submit(id, seal, secret);
+    let put = put_position(text, &position);
+    put
+}
+
+/// The position at which a house took a seal.
+fn put_position(text: &mut Text, position: &Result<u32, HouseErr>) -> Tried<()> {
+    match position {
+        Ok(position) => {
+            text.put_number(b"position ", u64::from(*position));
+            Ok(())
+        }
+        Err(refusal) => put_refused(text, refusal),
     }
 }
 

@@ -1,9 +1,8 @@
 // Stores that are closed and opened again, changed, and made by other programs.
 use crate::commands::{Task, behind_word};
 use crate::stores::Image;
-use crate::texts::text_in;
 use std::alloc::Global;
-use vk_cases::{Tried, Unreplayed, number_at, text_of, word_at};
+use vk_cases::{Text, Tried, Unreplayed, number_at, text_in, text_of, word_at};
 use vk_io::{Content, Shelf, read_whole};
 
 /// How the store that statements change is made.
@@ -22,22 +21,28 @@ pub fn house_text(alloc: Global, case: &[u8]) -> Tried<Vec<u8>> {
 }
 
 fn told_house(alloc: Global, image: &mut Image, case: &[u8]) -> Tried<Vec<u8>> {
-    let mut text = Vec::new(alloc);
+    let mut text = Text::new(alloc);
+    put_house(alloc, image, case, &mut text)?;
+    text.into_bytes()
+}
+
+fn put_house(alloc: Global, image: &mut Image, case: &[u8], text: &mut Text) -> Tried<()> {
     for part in case.split(|byte| *byte == b'|') {
-        take_part(alloc, image, part.trim_ascii(), &mut text)?;
+        take_part(alloc, image, part.trim_ascii(), text)?;
     }
-    Ok(text)
+    Ok(())
 }
 
 /// Does a part of a case to the store: `run STATEMENTS`, `seals COUNT`, or a command, of which it
 /// is told what came.
-fn take_part(alloc: Global, image: &mut Image, part: &[u8], text: &mut Vec<u8>) -> Tried<()> {
+fn take_part(alloc: Global, image: &mut Image, part: &[u8], text: &mut Text) -> Tried<()> {
     match text_in(word_at(part, 0)?)? {
         "run" => change(alloc, image, behind_word(part).trim_ascii()),
         "seals" => hand_in(alloc, image, number_at(part, 1, 64)?),
         _ => {
             let said = image.take(alloc, &Task::Command(part))?;
-            push_said(text, part, said.as_str())
+            put_said(text, part, said.as_slice());
+            Ok(())
         }
     }
 }
@@ -52,10 +57,19 @@ fn hand_in(alloc: Global, image: &mut Image, many: u64) -> Tried<()> {
 }
 
 fn hand_in_one(alloc: Global, image: &mut Image, seat: u64) -> Tried<()> {
-    let command = format!(in alloc; "submit {seat} {seat}")?;
-    let said = image.take(alloc, &Task::Command(command.as_bytes()))?;
-    let wanted = format!(in alloc; "position {seat}")?;
-    if said.as_str() != wanted.as_str() {
+    let mut words = Text::new(alloc);
+    let handed_in = hand_in_by(alloc, image, seat, &mut words);
+    handed_in
+}
+
+/// The same with that text for the command, and then for what is to be answered.
+fn hand_in_by(alloc: Global, image: &mut Image, seat: u64, words: &mut Text) -> Tried<()> {
+    words.put_number(b"submit ", seat);
+    words.put_number(b" ", seat);
+    let said = image.take(alloc, &Task::Command(words.bytes()?))?;
+    words.clear();
+    words.put_number(b"position ", seat);
+    if said.as_slice() != words.bytes()? {
         return Err(Unreplayed::Outside);
     }
     Ok(())
@@ -90,7 +104,7 @@ pub fn file_text<S: Shelf>(alloc: Global, shelf: &mut S, case: &[u8]) -> Tried<V
 /// The case, and what is found in the store.
 fn found_text(alloc: Global, image: &Image, case: &[u8]) -> Tried<Vec<u8>> {
     let said = image.said(alloc, &Task::Find)?;
-    said_of(alloc, case, said.as_str())
+    said_of(alloc, case, said.as_slice())
 }
 
 /// Does a command to the store, whatever it answers.
@@ -102,24 +116,22 @@ pub fn make(alloc: Global, image: &mut Image, command: &[u8]) -> Tried<()> {
 /// Runs these statements on the store.
 pub fn change(alloc: Global, image: &mut Image, statements: &[u8]) -> Tried<()> {
     let said = image.take(alloc, &Task::Run(text_in(statements)?))?;
-    if said.as_str() != "ran" {
+    if text_in(said.as_slice())? != "ran" {
         return Err(Unreplayed::NoCase);
     }
     Ok(())
 }
 
 /// A line with what was asked, and what came of it.
-pub fn said_of(alloc: Global, asked: &[u8], said: &str) -> Tried<Vec<u8>> {
-    let mut text = Vec::new(alloc);
-    push_said(&mut text, asked, said)?;
-    Ok(text)
+pub fn said_of(alloc: Global, asked: &[u8], said: &[u8]) -> Tried<Vec<u8>> {
+    let mut text = Text::new(alloc);
+    put_said(&mut text, asked, said);
+    text.into_bytes()
 }
 
 /// Puts such a line behind the text.
-fn push_said(text: &mut Vec<u8>, asked: &[u8], said: &str) -> Tried<()> {
-    text.extend_from_slice(asked)?;
-    text.extend_from_slice(b": ")?;
-    text.extend_from_slice(said.as_bytes())?;
-    text.push(b'\n')?;
-    Ok(())
+fn put_said(text: &mut Text, asked: &[u8], said: &[u8]) {
+    text.put(asked);
+    text.put(b": ");
+    text.put_line(said);
 }

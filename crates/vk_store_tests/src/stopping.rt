@@ -15,9 +15,9 @@ const MOST_CALLS: u64 = 500;
 struct Step<'a> {
     command: &'a [u8],
     image: &'a Image,
-    said: String,
-    before: String,
-    after: String,
+    said: Vec<u8>,
+    before: Vec<u8>,
+    after: Vec<u8>,
 }
 
 /// The case, and whether what was found is right after each stop.
@@ -27,12 +27,15 @@ pub fn stop_text(alloc: Global, case: &[u8]) -> Tried<Vec<u8>> {
     let statements = parts.next().ok_or(Unreplayed::NoCase)?;
     let command = parts.next().ok_or(Unreplayed::NoCase)?;
     let is_right = is_right(alloc, made.trim_ascii(), statements, command.trim_ascii())?;
-    let said = if is_right {
-        "as before or as after"
+    said_of(alloc, case, right_text(is_right))
+}
+
+fn right_text(is_right: bool) -> &'static [u8] {
+    if is_right {
+        b"as before or as after"
     } else {
-        "wrong"
-    };
-    said_of(alloc, case, said)
+        b"wrong"
+    }
 }
 
 /// Whether what is found is right after each stop of the command, over the store that the first one
@@ -103,7 +106,7 @@ fn comes_back(alloc: Global, step: &Step, session: &Session) -> Tried<bool> {
     let found = session.image.said(alloc, &Task::Find)?;
     let again = session.image.session(alloc, &command, u64::MAX, u64::MAX)?;
     let last = again.image.said(alloc, &Task::Find)?;
-    let is_right = is_right_behind(step, session, found.as_str(), &again, last.as_str());
+    let is_right = is_right_behind(step, session, found.as_slice(), &again, last.as_slice());
     Ok(is_right)
 }
 
@@ -112,14 +115,14 @@ fn comes_back(alloc: Global, step: &Step, session: &Session) -> Tried<bool> {
 fn is_right_behind(
     step: &Step,
     session: &Session,
-    found: &str,
+    found: &[u8],
     again: &Session,
-    last: &str,
+    last: &[u8],
 ) -> bool {
-    let is_done = session.text.as_str() == step.said.as_str();
-    let is_after = found == step.after.as_str();
-    let is_before = found == step.before.as_str();
-    let is_again = again.text.as_str() == step.said.as_str();
-    let is_last = last == step.after.as_str();
+    let is_done = session.text.as_slice() == step.said.as_slice();
+    let is_after = found == step.after.as_slice();
+    let is_before = found == step.before.as_slice();
+    let is_again = again.text.as_slice() == step.said.as_slice();
+    let is_last = last == step.after.as_slice();
     (is_after || is_before && !is_done) && (is_again || is_after) && is_last
 }

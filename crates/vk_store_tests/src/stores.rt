@@ -1,11 +1,11 @@
 // Stores in memory: what their files hold, how they are opened and closed, and what is done to them
 // between.
 use crate::commands::Task;
-use crate::texts::{owned, refusal_text};
+use crate::texts::put_unopened;
 use sqlite::{Alter, Connection, FileStore, Files, Options};
 use sqlite_disk::{Crash, Disk, Fuse, Memory};
 use std::alloc::Global;
-use vk_cases::{Tried, Unreplayed};
+use vk_cases::{Text, Tried, Unreplayed};
 use vk_keeper_sql::SqlKeeper;
 
 /// What the files of a store hold.
@@ -19,7 +19,7 @@ pub struct Image {
 #[derive(Drop)]
 pub struct Session {
     /// What it answered, or why the store was not opened.
-    pub text: String,
+    pub text: Vec<u8>,
     /// No call of the files was refused.
     pub whole: bool,
     /// What the files hold, also where the machine then stops.
@@ -42,23 +42,39 @@ impl Image {
 
     /// Does the task over files that hold this and take no more than so many calls.
     pub fn session(&self, alloc: Global, task: &Task, of_log: u64, of_db: u64) -> Tried<Session> {
-        let log = disk(alloc, self.log.as_slice(), of_log)?;
-        let db = disk(alloc, self.db.as_slice(), of_db)?;
-        let (text, whole, files) = done_in(alloc, Files { log, db }, task);
-        let image = left_in(alloc, files)?;
-        let text = text?;
+        let mut text = Text::new(alloc);
+        let (whole, image) = self.done(alloc, task, &mut text, of_log, of_db)?;
+        let text = text.into_bytes()?;
         Ok(Session { text, whole, image })
     }
 
+    /// Does it, and puts behind the text what it answered. Whether no call was refused, and what
+    /// the files hold.
+    fn done(
+        &self,
+        alloc: Global,
+        task: &Task,
+        text: &mut Text,
+        of_log: u64,
+        of_db: u64,
+    ) -> Tried<(bool, Image)> {
+        let log = disk(alloc, self.log.as_slice(), of_log)?;
+        let db = disk(alloc, self.db.as_slice(), of_db)?;
+        let (done, whole, files) = done_in(alloc, Files { log, db }, task, text);
+        let image = left_in(alloc, files)?;
+        done?;
+        Ok((whole, image))
+    }
+
     /// What comes of the task over files that take all calls.
-    pub fn said(&self, alloc: Global, task: &Task) -> Tried<String> {
+    pub fn said(&self, alloc: Global, task: &Task) -> Tried<Vec<u8>> {
         let session = self.session(alloc, task, u64::MAX, u64::MAX)?;
         Ok(session.text)
     }
 
     /// Does the task over files that take all calls, and is then what these hold. Answers what came
     /// of it.
-    pub fn take(&mut self, alloc: Global, task: &Task) -> Tried<String> {
+    pub fn take(&mut self, alloc: Global, task: &Task) -> Tried<Vec<u8>> {
         let session = self.session(alloc, task, u64::MAX, u64::MAX)?;
         *self = session.image;
         Ok(session.text)
@@ -96,14 +112,18 @@ fn done_in<D: Disk + Drop>(
     alloc: Global,
     files: Files<D>,
     task: &Task,
-) -> (Tried<String>, bool, Files<D>) {
+    text: &mut Text,
+) -> (Tried<()>, bool, Files<D>) {
     match opened(alloc, files) {
         Ok(connection) => {
-            let (text, connection) = done_over(alloc, connection, task);
+            let (done, connection) = done_over(alloc, connection, task, text);
             let (files, whole) = closed(connection);
-            (text, whole, files)
+            (done, whole, files)
         }
-        Err(files) => (owned(alloc, "unopened"), false, files),
+        Err(files) => {
+            text.put(b"unopened");
+            (Ok(()), false, files)
+        }
     }
 }
 
@@ -134,21 +154,26 @@ fn done_over<S: Alter + Drop>(
     alloc: Global,
     mut connection: Connection<S>,
     task: &Task,
-) -> (Tried<String>, Connection<S>) {
+    text: &mut Text,
+) -> (Tried<()>, Connection<S>) {
     if let Task::Run(statements) = task {
-        let text = ran(alloc, &mut connection, statements);
-        return (text, connection);
+        let ran = run(&mut connection, statements);
+        text.put(ran);
+        return (Ok(()), connection);
     }
     match SqlKeeper::over(alloc, connection) {
         Ok(mut keeper) => {
-            let text = task.done(alloc, &mut keeper);
-            (text, keeper.close())
+            let done = task.put_done(alloc, &mut keeper, text);
+            (done, keeper.close())
         }
-        Err((refusal, connection)) => (refusal_text(alloc, refusal), connection),
+        Err((refusal, connection)) => (put_unopened(text, refusal), connection),
     }
 }
 
-fn ran<S: Alter>(alloc: Global, connection: &mut Connection<S>, statements: &str) -> Tried<String> {
-    let is_run = connection.execute_batch(statements).is_ok();
-    owned(alloc, if is_run { "ran" } else { "not run" })
+/// Runs the statements, and answers whether they ran.
+fn run<S: Alter>(connection: &mut Connection<S>, statements: &str) -> &'static [u8] {
+    match connection.execute_batch(statements) {
+        Ok(_changed) => b"ran",
+        Err(_refused) => b"not run",
+    }
 }

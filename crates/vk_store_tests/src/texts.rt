@@ -1,112 +1,110 @@
-// What is printed of an answer.
-use std::alloc::Global;
-use std::str::from_utf8;
-use vk_cases::{Tried, Unreplayed};
+// What is printed of an answer. It is put behind a text that notes want of memory, since each way
+// out of a text that is made takes seconds to prove.
+use vk_cases::{Text, Tried, Unreplayed};
 use vk_house::HouseErr;
 use vk_io::OutsideErr;
 use vk_job::Job;
 use vk_keeper::{Auction, Phase};
 use vk_keeper_sql::OpenErr;
-use vk_reply::{Challenge, push_bits};
 use vk_vickrey::Sale;
 
-/// The text, owned.
-pub fn owned(alloc: Global, text: &str) -> Tried<String> {
-    Ok(String::from_str(alloc, text)?)
-}
-
-/// The bytes as text, which is compared at less cost to the prover than bytes are.
-pub fn text_in(bytes: &[u8]) -> Tried<&str> {
-    match from_utf8(bytes) {
-        Ok(text) => Ok(text),
-        Err(_) => Err(Unreplayed::NoCase),
-    }
-}
-
 /// Why a store was not opened.
-pub fn refusal_text(alloc: Global, refusal: OpenErr) -> Tried<String> {
+pub fn put_unopened(text: &mut Text, refusal: OpenErr) -> Tried<()> {
     match refusal {
-        OpenErr::Version { rows, number } => Ok(format!(in alloc;
-            "version rows {rows} number {number}"
-        )?),
-        OpenErr::Refused => Ok(String::from_str(alloc, "refused")?),
-        OpenErr::NoMemory => Err(Unreplayed::NoMemory),
+        OpenErr::Version { rows, number } => {
+            text.put_number(b"version rows ", rows);
+            text.put(b" number ");
+            put_signed(text, number);
+        }
+        OpenErr::Refused => text.put(b"refused"),
+        OpenErr::NoMemory => return Err(Unreplayed::NoMemory),
     }
+    Ok(())
+}
+
+/// The number in decimal.
+fn put_signed(text: &mut Text, number: i64) {
+    if number < 0 {
+        text.put(b"-");
+    }
+    text.put_number(b"", number.unsigned_abs());
 }
 
 /// Why a house refused a command.
-pub fn refused_text(alloc: Global, refusal: &HouseErr) -> Tried<String> {
+pub fn put_refused(text: &mut Text, refusal: &HouseErr) -> Tried<()> {
     match refusal {
-        HouseErr::NoMemory => Err(Unreplayed::NoMemory),
-        HouseErr::KeeperFailed => Ok(String::from_str(alloc, "fault")?),
-        HouseErr::OtherChallenge { kept } => {
-            let bits = challenge_text(alloc, kept)?;
-            Ok(format!(in alloc; "kept {bits}")?)
-        }
-        _ => Ok(String::from_str(alloc, "refused")?),
+        HouseErr::NoMemory => return Err(Unreplayed::NoMemory),
+        HouseErr::KeeperFailed => text.put(b"fault"),
+        HouseErr::OtherChallenge { kept } => text.put_bits(b"kept ", kept.bits.as_slice()),
+        _ => text.put(b"refused"),
     }
+    Ok(())
 }
 
 /// What a house proved.
-pub fn proved_text(alloc: Global, proved: &Result<Job, HouseErr>) -> Tried<String> {
+pub fn put_proved(text: &mut Text, proved: &Result<Job, HouseErr>) -> Tried<()> {
     match proved {
-        Ok(job) => match job.sale() {
-            Sale::Sold { position, price } => Ok(format!(in alloc; "sold {position} {price}")?),
-            Sale::Unsold => Ok(String::from_str(alloc, "unsold")?),
-        },
-        Err(refusal) => refused_text(alloc, refusal),
+        Ok(job) => {
+            put_sale(text, job.sale());
+            Ok(())
+        }
+        Err(refusal) => put_refused(text, refusal),
+    }
+}
+
+fn put_sale(text: &mut Text, sale: Sale) {
+    match sale {
+        Sale::Sold { position, price } => {
+            text.put_number(b"sold ", u64::from(position));
+            text.put_number(b" ", price);
+        }
+        Sale::Unsold => text.put(b"unsold"),
     }
 }
 
 /// The challenge that a house answered.
-pub fn answered_text(alloc: Global, answered: &Result<Job, HouseErr>) -> Tried<String> {
+pub fn put_answered(text: &mut Text, answered: &Result<Job, HouseErr>) -> Tried<()> {
     match answered {
-        Ok(job) => phase_text(alloc, &job.auction().phase),
-        Err(refusal) => refused_text(alloc, refusal),
+        Ok(job) => {
+            put_phase(text, &job.auction().phase);
+            Ok(())
+        }
+        Err(refusal) => put_refused(text, refusal),
     }
 }
 
 /// What a keeper found.
-pub fn found_text(alloc: Global, found: &Result<Option<Auction>, OutsideErr>) -> Tried<String> {
+pub fn put_found(text: &mut Text, found: &Result<Option<Auction>, OutsideErr>) -> Tried<()> {
     match found {
-        Ok(Some(auction)) => auction_text(alloc, auction),
-        Ok(None) => Ok(String::from_str(alloc, "none")?),
-        Err(OutsideErr::Failed) => Ok(String::from_str(alloc, "fault")?),
-        Err(OutsideErr::NoMemory) => Err(Unreplayed::NoMemory),
+        Ok(Some(auction)) => put_auction(text, auction),
+        Ok(None) => text.put(b"none"),
+        Err(OutsideErr::Failed) => text.put(b"fault"),
+        Err(OutsideErr::NoMemory) => return Err(Unreplayed::NoMemory),
     }
+    Ok(())
 }
 
 /// All of an auction but its id and what its seals were made of: of each seal its seat and the bid
 /// in it.
-fn auction_text(alloc: Global, auction: &Auction) -> Tried<String> {
-    let mut text = format!(in alloc;
-        "version {} width {} lanes {} reserve {}",
-        auction.version, auction.width, auction.lanes, auction.reserve
-    )?;
+fn put_auction(text: &mut Text, auction: &Auction) {
+    text.put_number(b"version ", u64::from(auction.version));
+    text.put_number(b" width ", u64::from(auction.width));
+    text.put_number(b" lanes ", u64::from(auction.lanes));
+    text.put_number(b" reserve ", auction.reserve);
     for row in auction.seals.as_slice() {
-        let seal = format!(in alloc; " {}:{}", row.seal.seat, row.secret.bid)?;
-        text.push_str(seal.as_str())?;
+        text.put_number(b" ", u64::from(row.seal.seat));
+        text.put_number(b":", row.secret.bid);
     }
-    let phase = phase_text(alloc, &auction.phase)?;
-    Ok(format!(in alloc; "{text} {phase}")?)
+    text.put(b" ");
+    put_phase(text, &auction.phase);
 }
 
-fn phase_text(alloc: Global, phase: &Phase) -> Tried<String> {
+fn put_phase(text: &mut Text, phase: &Phase) {
     match phase {
-        Phase::Taking => Ok(String::from_str(alloc, "taking")?),
-        Phase::Proved { .. } => Ok(String::from_str(alloc, "proved")?),
+        Phase::Taking => text.put(b"taking"),
+        Phase::Proved { .. } => text.put(b"proved"),
         Phase::Answered { challenge, .. } => {
-            let bits = challenge_text(alloc, challenge)?;
-            Ok(format!(in alloc; "answered {bits}")?)
+            text.put_bits(b"answered ", challenge.bits.as_slice());
         }
-    }
-}
-
-fn challenge_text(alloc: Global, challenge: &Challenge) -> Tried<String> {
-    let mut bits = Vec::new(alloc);
-    push_bits(&mut bits, challenge.bits.as_slice())?;
-    match String::from_utf8(bits) {
-        Ok(text) => Ok(text),
-        Err(_refused) => Err(Unreplayed::NoCase),
     }
 }

@@ -1,11 +1,11 @@
 // What comes of a case, as it is written.
+use crate::unreplayed::{Tried, Unreplayed};
 use std::alloc::Global;
-use vk_cases::{Tried, Unreplayed};
+use vk_io::Sink;
 use vk_lines::{push_decimal, push_hex};
-use vk_reply::push_bits;
 
-/// Bytes that are appended to, and whether there was memory for all of them. So what writes has one
-/// way out.
+/// Bytes that are appended to, and whether there was memory for all of them, which is answered once
+/// they are read. So what writes has no way out for each piece, which takes seconds to prove.
 #[derive(Drop)]
 pub struct Text {
     bytes: Vec<u8>,
@@ -19,6 +19,11 @@ impl Text {
             bytes: Vec::new(alloc),
             is_whole: true,
         }
+    }
+
+    /// Begins anew.
+    pub fn clear(&mut self) {
+        self.bytes.clear();
     }
 
     /// Appends the bytes.
@@ -42,6 +47,20 @@ impl Text {
         }
     }
 
+    /// Appends a word and its number, each behind a space.
+    pub fn put_count(&mut self, word: &[u8], number: u64) {
+        self.put(b" ");
+        self.put(word);
+        self.put_number(b" ", number);
+    }
+
+    /// Appends a line of a word and its number.
+    pub fn put_number_line(&mut self, word: &[u8], number: u64) {
+        self.put(word);
+        self.put_number(b" ", number);
+        self.put(b"\n");
+    }
+
     /// Appends a mark, and behind it the bytes as lower-case hexadecimal.
     pub fn put_hex(&mut self, mark: &[u8], bytes: &[u8]) {
         self.put(mark);
@@ -53,9 +72,14 @@ impl Text {
     /// Appends a mark, and the bits behind it.
     pub fn put_bits(&mut self, mark: &[u8], bits: &[bool]) {
         self.put(mark);
-        if push_bits(&mut self.bytes, bits).is_err() {
-            self.is_whole = false;
+        for bit in bits {
+            self.put(if *bit { b"1" } else { b"0" });
         }
+    }
+
+    /// How many bytes are written.
+    pub fn len(&self) -> usize {
+        self.bytes.len()
     }
 
     /// The bytes that are written, where there was memory for all.
@@ -67,7 +91,7 @@ impl Text {
         }
     }
 
-    /// The bytes that were written, where there was memory for all.
+    /// The same, owned.
     pub fn into_bytes(self) -> Tried<Vec<u8>> {
         let Text { bytes, is_whole } = self;
         if is_whole {
@@ -75,5 +99,11 @@ impl Text {
         } else {
             Err(Unreplayed::NoMemory)
         }
+    }
+
+    /// Prints what is written, where there was memory for all.
+    pub fn print<W: Sink>(&self, out: &mut W) -> Tried<()> {
+        out.put(self.bytes()?)?;
+        Ok(())
     }
 }
