@@ -1,23 +1,21 @@
 -- What two replies to a file come to, from what they come to behind its front.
-use Rattle.std.proofs.Common.{◌≡◌, List, [], Option, Some, None, IfSome, option_map, Result, Ok, Err, refl, sym, subst, ap, ◌∙◌}
+use Rattle.std.proofs.Common.{◌≡◌, List, [], Option, Some, None, IfSome, IsSomeAnd, option_map, Result, Ok, Err, refl, ap, ◌∙◌}
 use Rattle.vk_commit.specs.Commitment.{TwoOpeningsSeen}
 use Rattle.vk_judge.specs.declared.answers.Fault.{Fault}
-use Rattle.vk_judge.specs.declared.checker.FileCourse.{FileCourse}
 use Rattle.vk_judge.specs.declared.opened.Opened.{Opened}
 use Rattle.vk_judge.specs.declared.opened.Refusal.{Refusal}
 use Rattle.vk_judge.specs.declared.stage.Base.{Base}
 use Rattle.vk_judge.specs.declared.stage.Finding.{Finding}
 use Rattle.vk_judge.specs.declared.stage.Finding.TheVariants as ends
 use Rattle.vk_judge.specs.declared.stage.TwoLane.{TwoLane}
-use Rattle.vk_judge.specs.Statement.{StatementValue}
-use Rattle.vk_judge.specs.Two.{Ahead, base_of}
-use Rattle.vk_judge.specs.Opened.{Checked, FileBase, as_found, checked_base, coming_with, opened_in, with_head}
+use Rattle.vk_judge.specs.Two.{Ahead}
+use Rattle.vk_judge.specs.Opened.{FileBase, as_found, coming_with, opened_in, with_head}
 use Rattle.vk_bids.specs.declared.bids.LaneBids.{LaneBids}
 use Rattle.vk_bids.specs.declared.extraction.Extraction.TheVariants.{Refused, Same, Clash, Bids}
-use Rattle.vk_bids.specs.Extractions.{found_by, gathered_after, given_by}
-use Rattle.vk_bids.specs.FileExtraction.{FileExtraction, OpensBase, OpensFile, extraction_of, extraction_with, opened_by}
+use Rattle.vk_bids.specs.Extractions.{OfBids, found_by, gathered_after, given_by}
+use Rattle.vk_bids.specs.FileExtraction.{FileExtraction, OpensBase, OpensFile, OpensValuesOf, extraction_of, extraction_with, opened_by}
 use Rattle.vk_bids.specs.Gathering.{gathered_from}
-use Rattle.vk_bids.specs.LaneExtraction.{AreOfBase, LaneExtraction, OpensLanes, lane_extraction, opened_of}
+use Rattle.vk_bids.specs.LaneExtraction.{lane_extraction, opened_of}
 
 module _ {H : Type 0} (R : Type 0) (head : H) where
   with_its_head : (base : Base) (gathered : Result (List LaneBids) TwoOpeningsSeen)
@@ -46,28 +44,17 @@ module _ {H : Type 0} (R : Type 0) (head : H) where
 
 -- ---- what is opened
 
-base_opens : {H : Type 0} (R : Type 0) (head : H) (base : Option Base) (found : LaneExtraction)
-    → OpensLanes found → AreOfBase base found
-    → OpensBase {R = R} (option_map (with_head head) base) (extraction_with head found)
-base_opens R head base (Refused second fault) opens are = tt
-base_opens R head base Same opens are = tt
-base_opens R head base (Clash two) opens are = tt
-base_opens R head None (Bids opened) opens are = absurd are
-base_opens {H} R head (Some base) (Bids opened) opens are = record {
-  such = ap (λ (s : StatementValue). let file : Opened H = record { head = head; statement = s } in
-      file) are;
-  statement = opens.0;
-  lanes = opens.1;
-}
-
-pub course_opens : {H R : Type 0} (checked : Checked H R) (course : FileCourse H)
-    (found : LaneExtraction)
-    → checked ≡ Ok course → OpensLanes found → AreOfBase (base_of course.lanes) found
-    → OpensBase {R = R} (checked_base checked) (extraction_with course.head found)
-course_opens {H} {R} checked course found is opens are =
-    let P : Checked H R → Type 0 =
-    λ c. OpensBase {R = R} (checked_base c) (extraction_with course.head found) in
-    subst P (sym is) (base_opens R course.head (base_of course.lanes) found opens are)
+-- of the file that is known
+pub opens_base : {H R : Type 0} (base : Option (FileBase H)) (file : Opened H)
+    (found : FileExtraction H R)
+    → IsSomeAnd base (λ known. opened_in known ≡ file)
+    → OfBids (OpensValuesOf (λ other. file ≡ other)) found → OpensBase base found
+opens_base base file (Refused second refusal) known opens = tt
+opens_base base file Same known opens = tt
+opens_base base file (Clash two) known opens = tt
+opens_base None file (Bids found) known opens = absurd known
+opens_base (Some base) file (Bids found) known opens =
+    record { such = known ∙ opens.such; statement = opens.statement; lanes = opens.lanes }
 
 -- of the file that was opened
 pub opens_file : {H R : Type 0} (opened : Result (Opened H) (Refusal R))

@@ -3,7 +3,7 @@ use Rattle.std.proofs.Common.{◌≡◌, All, List, [], ◌++◌, Option, Some, 
 use Rattle.std.specs.Option.{option_to_list}
 use Rattle.std.proofs.lemmas.List.Elements.{All-nil, All-cons, All-append}
 use Rattle.vk_judge.specs.Statement.{StatementValue}
-use Rattle.vk_judge.specs.declared.stage.Base.{Base}
+use Rattle.vk_judge.specs.Opened.{FileBase}
 use Rattle.vk_bids.specs.declared.bids.LaneBids.{LaneBids}
 use Rattle.vk_bids.specs.Opening.{LaneOpens}
 
@@ -22,12 +22,13 @@ with_found s before after found pushed opens so_far =
     (found_opens s found opens))
 
 -- the same of a base with the statement
-pub by_statement : (base : Option Base) (statement : StatementValue) (before after : List LaneBids)
-    → IfSome base (λ base. base.statement ≡ statement)
+pub by_statement : {H : Type 0} (base : Option (FileBase H)) (statement : StatementValue)
+    (before after : List LaneBids)
+    → IfSome base (λ known. known.base.statement ≡ statement)
     → (All (LaneOpens statement) before → All (LaneOpens statement) after)
-    → IfSome base (λ base. All (LaneOpens base.statement) before
-    → All (LaneOpens base.statement) after)
+    → IfSome base (λ known. All (LaneOpens known.base.statement) before
+    → All (LaneOpens known.base.statement) after)
 by_statement None statement before after is step = tt
-by_statement (Some base) statement before after is step =
+by_statement (Some known) statement before after is step =
     let P : StatementValue → Type 0 = λ s. All (LaneOpens s) before → All (LaneOpens s) after in
     subst P (sym is) step

@@ -1,6 +1,7 @@
 -- What two replies to a file of any form come to: one of them is refused, the challenges are the
 -- same, two openings of one commitment, or the values of the lanes whose bits differ.
-use Rattle.std.specs.Prelude.{◌≡◌, ℕ, All, List, Option, IsSomeAnd, Result, Ok}
+use Rattle.std.specs.Prelude.{◌≡◌, ℕ, All, List, [], Option, Some, IfSome, IsSomeAnd, Result, Ok}
+use Rattle.vk_commit.specs.Commitment.{TwoOpeningsSeen}
 use Rattle.vk_lines.specs.Lines.{Rest}
 use Rattle.vk_judge.specs.declared.opened.Opened.{Opened}
 use Rattle.vk_judge.specs.declared.opened.Refusal.{Refusal}
@@ -9,12 +10,14 @@ use Rattle.vk_judge.specs.declared.stage.Finding.{Finding}
 use Rattle.vk_judge.specs.declared.stage.Finding.TheVariants as finds
 use Rattle.vk_judge.specs.Statement.{IsStatement}
 use Rattle.vk_judge.specs.Begun.{from_start}
+use Rattle.vk_judge.specs.Two.{Ahead}
 use Rattle.vk_judge.specs.Opened.{Coming, FileBase, Front, coming_past, file_coming, opened_in}
 use Rattle.vk_bids.specs.declared.bids.LaneBids.{LaneBids}
 use Rattle.vk_bids.specs.declared.extraction.Extraction.{Extraction}
 use Rattle.vk_bids.specs.declared.extraction.Extraction.TheVariants.{Refused, Same, Clash, Bids}
 use Rattle.vk_bids.specs.declared.file_extraction.OpenedFile.{OpenedFile}
 use Rattle.vk_bids.specs.Extractions.{IsFound, OfBids, comes_to}
+use Rattle.vk_bids.specs.Gathering.{gathered_from}
 use Rattle.vk_bids.specs.LaneExtraction.{LaneExtraction, opened_of}
 use Rattle.vk_bids.specs.Opening.{LaneOpens}
 
@@ -28,10 +31,13 @@ extraction_with head Same = Same
 extraction_with head (Clash two) = Clash two
 extraction_with head (Bids opened) = Bids (record { head = head; opened = opened })
 
+-- these values, of the file that was opened
+abbrev pub values_of : {H : Type 0} → Opened H → List LaneBids → OpenedFile H
+values_of file lanes = record { head = file.head; opened = opened_of file.statement lanes }
+
 -- these values, and what was read before the first lane
 abbrev pub opened_by : {H : Type 0} → FileBase H → List LaneBids → OpenedFile H
-opened_by known lanes =
-    record { head = known.head; opened = opened_of known.base.statement lanes }
+opened_by known = values_of (opened_in known)
 
 -- by what was read before the first lane, and what is given and found then
 abbrev pub extraction_of : {H R : Type 0} → Coming H R → FileExtraction H R
@@ -76,6 +82,14 @@ OpensFile opened = OfBids (OpensValuesOf (λ file. opened ≡ Ok file))
 -- of the file that is known
 abbrev pub OpensBase : {H R : Type 0} → Option (FileBase H) → FileExtraction H R → Type 0
 OpensBase base = OfBids (OpensValuesOf (λ file. IsSomeAnd base (λ known. opened_in known ≡ file)))
+
+-- what is found and gathered in the end is what was ahead
+pub record ComesTo {H R : Type 0} (base : Option (FileBase H)) (ahead : Ahead (Refusal R))
+    (found : Option (Finding (Refusal R))) (gathered : Result (List LaneBids) TwoOpeningsSeen)
+    : Type 0 where
+  pub finding : found ≡ Some ahead.finding
+  pub gathers : IfSome base
+      (λ known. gathered_from known.base.statement (Ok []) 1 ahead.lanes ≡ gathered)
 
 -- ---- by what is found
 

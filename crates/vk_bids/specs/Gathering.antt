@@ -11,10 +11,9 @@ use Rattle.vk_extractor.specs.Clash.{clash_of_lane}
 use Rattle.vk_extractor.specs.declared.lane.LaneErr.{LaneErr}
 use Rattle.vk_extractor.specs.declared.lane.LaneErr.TheVariants.{Clash, NoMemory}
 use Rattle.vk_judge.specs.declared.stage.TwoLane.{TwoLane}
-use Rattle.vk_judge.specs.declared.stage.Base.{Base}
-use Rattle.vk_judge.specs.declared.stage.Stage.{Stage}
 use Rattle.vk_judge.specs.Statement.{StatementValue}
-use Rattle.vk_judge.specs.Two.{IsTwoLane, base_of, given_of}
+use Rattle.vk_judge.specs.Opened.{Checked, FileBase, checked_base, checked_given}
+use Rattle.vk_judge.specs.Two.{IsTwoLane}
 use Rattle.vk_bids.specs.declared.bids.LaneBids.{LaneBids}
 use Rattle.vk_bids.specs.Bids.{opened_bids}
 
@@ -76,9 +75,9 @@ IsClashOf (Clash two) given = given ≡ Err two
 IsClashOf NoMemory given = Unit {0}
 
 -- the lane is the last that was given
-pub record IsLastLane (stage : Stage) (lane : TwoLane) : Type 0 where
-  pub base : Base
-  pub is : base_of stage ≡ Some base
-  pub some : 1 ≤ given_of stage
-  pub within : given_of stage ≤ base.statement.lanes
-  pub checked : IsTwoLane base.statement (given_of stage) lane
+pub record IsLastLane {H R : Type 0} (files : Checked H R) (lane : TwoLane) : Type 0 where
+  pub known : FileBase H
+  pub is : checked_base files ≡ Some known
+  pub some : 1 ≤ checked_given files
+  pub within : checked_given files ≤ known.base.statement.lanes
+  pub checked : IsTwoLane known.base.statement (checked_given files) lane

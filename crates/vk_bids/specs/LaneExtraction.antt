@@ -1,19 +1,15 @@
 -- What two replies come to behind a front: one of them has a fault, the challenges are the same,
 -- two openings of one commitment, or the values of the lanes whose bits differ.
-use Rattle.std.specs.Prelude.{◌≡◌, All, List, [], Option, Some, IfSome, IsSomeAnd, Result, Ok}
-use Rattle.vk_commit.specs.Commitment.{TwoOpeningsSeen}
+use Rattle.std.specs.Prelude.{List, Option}
 use Rattle.vk_lines.specs.Lines.{Rest}
 use Rattle.vk_judge.specs.declared.answers.Fault.{Fault}
 use Rattle.vk_judge.specs.declared.stage.Base.{Base}
-use Rattle.vk_judge.specs.declared.stage.Finding.{Finding}
-use Rattle.vk_judge.specs.Statement.{StatementValue, IsStatement}
+use Rattle.vk_judge.specs.Statement.{StatementValue}
 use Rattle.vk_judge.specs.Two.{Ahead, ahead_behind, base_behind, base_in}
 use Rattle.vk_bids.specs.declared.bids.LaneBids.{LaneBids}
 use Rattle.vk_bids.specs.declared.extraction.Extraction.{Extraction}
 use Rattle.vk_bids.specs.declared.lane_extraction.OpenedLanes.{OpenedLanes}
-use Rattle.vk_bids.specs.Extractions.{OfBids, comes_to}
-use Rattle.vk_bids.specs.Gathering.{gathered_from}
-use Rattle.vk_bids.specs.Opening.{LaneOpens}
+use Rattle.vk_bids.specs.Extractions.{comes_to}
 
 abbrev pub LaneExtraction : Type 0
 LaneExtraction = Extraction Fault OpenedLanes
@@ -34,18 +30,3 @@ lane_extraction_behind s rest first_challenge first_reply second_challenge secon
     lane_extraction (base_in (base_behind s rest first_challenge first_reply second_challenge
     second_reply))
     (ahead_behind s rest first_challenge first_reply second_challenge second_reply)
-
--- the values of each lane open its seals, and are inputs for which the statement's circuit holds
-abbrev pub OpensLanes : LaneExtraction → Type 0
-OpensLanes = OfBids (λ opened. IsStatement opened.statement
-    × All (LaneOpens opened.statement) opened.lanes)
-
--- the lanes are those of the statement that was read
-abbrev pub AreOfBase : Option Base → LaneExtraction → Type 0
-AreOfBase base = OfBids (λ opened. IsSomeAnd base (λ base. base.statement ≡ opened.statement))
-
--- what is found and gathered in the end is what was ahead
-pub record ComesTo (base : Option Base) (ahead : Ahead Fault) (found : Option (Finding Fault))
-    (gathered : Result (List LaneBids) TwoOpeningsSeen) : Type 0 where
-  pub finding : found ≡ Some ahead.finding
-  pub gathers : IfSome base (λ base. gathered_from base.statement (Ok []) 1 ahead.lanes ≡ gathered)

@@ -1,17 +1,21 @@
 // What two replies to a file of any form come to.
-ghost use Rattle.std.specs.Prelude.{◌≡◌, IfOk, IfSome, IsErrOf};
+ghost use Rattle.std.specs.Prelude.{◌≡◌, All, IfOk, IfSome, IsErrOf};
 ghost use Rattle.vk_io.specs.Reads.{OnlyReads};
 ghost use Rattle.vk_judge.specs.Behind.{and_rest};
-ghost use Rattle.vk_judge.specs.Opened.{checked_base, checked_given, coming_of};
-ghost use Rattle.vk_judge.specs.Two.{IsStage, of_two};
+ghost use Rattle.vk_judge.specs.Opened.{IsCheckedOver, checked_base, checked_finding, checked_given, coming_of};
+ghost use Rattle.vk_judge.specs.Statement.{IsStatement};
+ghost use Rattle.vk_judge.specs.Two.{of_two};
 ghost use Rattle.vk_judge.specs.Wanting.{MemoryWasWanting};
-ghost use Rattle.vk_bids.specs.FileExtraction.{OpensBase, OpensFile, extraction_of, extraction_past, extraction_with};
+ghost use Rattle.vk_bids.specs.Extractions.{OfBids, found_by, given_by};
+ghost use Rattle.vk_bids.specs.FileExtraction.{OpensBase, OpensFile, OpensValuesOf, extraction_of, extraction_past, opened_by, values_of};
+ghost use Rattle.vk_bids.specs.Opening.{LaneOpens};
 
 use crate::extraction::Extraction;
-use crate::lane_extraction::{LaneExtraction, OpenedLanes, extract_lanes};
+use crate::gathering::Gathered;
+use crate::lane_extraction::{OpenedLanes, gather};
 use std::alloc::Global;
 use vk_io::{OutsideErr, Shelf};
-use vk_judge::{Checker, FileCourse, Opened, Refusal, TwoAttempts};
+use vk_judge::{Checker, Finding, Opened, Refusal, TwoAttempts};
 
 /// What two accepted replies open of a file: its head, and the values of the lanes whose two bits
 /// differ.
@@ -60,31 +64,41 @@ pub fn extract_checked<S: Shelf, H: Drop, R: Copy>(
     ensures wanting { IsErrOf result OutsideErr.NoMemory → MemoryWasWanting }
     ensures shelf { OnlyReads S.held S.Shelf.faults OutsideErr.Failed result shelf.old shelf.new }
 {
-    match checker.into_course() {
-        Err(verdict) => Ok(Extraction::Refused {
-            second: false,
-            verdict,
-        }),
-        Ok(course) => {
-            let FileCourse { head, lanes } = course;
-            let found = extract_lanes(alloc, shelf, lanes)?;
-            let found = with_head(head, found);
-            Ok(found)
-        }
+    let (checker, gathered) = gather(alloc, shelf, checker)?;
+    let found = concluded(checker, gathered);
+    Ok(found)
+}
+
+/// What was found, with what was gathered.
+#[tactic(auto, using(crate::proofs::FileExtraction::opens_base))]
+fn concluded<H: Drop, R: Copy>(checker: Checker<H, R>, gathered: Gathered) -> FileExtraction<H, R>
+    requires over { IsCheckedOver checker }
+    requires opens { IfSome (checked_base checker)
+        (λ known. IfOk gathered (All (LaneOpens known.base.statement))) }
+    ensures value { IfSome (checked_finding checker)
+        (λ finding. result ≡ found_by opened_by (checked_base checker) finding gathered) }
+    ensures opens { OpensBase (checked_base checker) result }
+{
+    match checker.finding() {
+        Finding::Refused { second, verdict } => Extraction::Refused { second, verdict },
+        Finding::Same => Extraction::Same,
+        Finding::Ready => values_of(checker.into_opened(), gathered),
     }
 }
 
-/// What is found behind the front of a file with this head.
-fn with_head<H: Drop, R: Copy>(head: H, found: LaneExtraction) -> FileExtraction<H, R>
-    ensures { result ≡ extraction_with head found }
+/// Where both replies are accepted and the challenges differ.
+fn values_of<H: Drop, R: Copy>(file: Opened<H>, gathered: Gathered) -> FileExtraction<H, R>
+    requires statement { IsStatement file.statement }
+    requires opens { IfOk gathered (All (LaneOpens file.statement)) }
+    ensures value { result ≡ given_by (values_of file) gathered }
+    ensures opens { OfBids (OpensValuesOf (λ other. file ≡ other)) result }
 {
-    match found {
-        Extraction::Refused { second, verdict } => {
-            let verdict = Refusal::Fault(verdict);
-            Extraction::Refused { second, verdict }
+    let Opened { head, statement } = file;
+    match gathered {
+        Ok(lanes) => {
+            let opened = OpenedLanes { statement, lanes };
+            Extraction::Bids(OpenedFile { head, opened })
         }
-        Extraction::Same => Extraction::Same,
-        Extraction::Clash(two) => Extraction::Clash(two),
-        Extraction::Bids(opened) => Extraction::Bids(OpenedFile { head, opened }),
+        Err(two) => Extraction::Clash(two),
     }
 }

@@ -2,7 +2,8 @@
 ghost use Rattle.std.specs.Prelude.{◌≡◌, ◌≤◌, ◌++◌, Ok, Err, All, IfErr, IfOk, IfSome, IsErr, OnErr, OnOk, false, true};
 ghost use Rattle.std.specs.Option.{option_to_list};
 ghost use Rattle.vk_row.specs.Lanes.{IsAccepted};
-ghost use Rattle.vk_judge.specs.Two.{IsTwoLane, base_of, given_of};
+ghost use Rattle.vk_judge.specs.Opened.{checked_base, checked_given};
+ghost use Rattle.vk_judge.specs.Two.{IsTwoLane};
 ghost use Rattle.vk_judge.specs.Wanting.{MemoryWasWanting};
 ghost use Rattle.vk_bids.specs.Gathering.{IsClashOf, IsLastLane, added, bids_of, lane_found};
 ghost use Rattle.vk_bids.specs.Opening.{IsCaseOf, LaneOpens};
@@ -12,7 +13,7 @@ use crate::extracting::extract_bids;
 use std::alloc::Global;
 use vk_commit::TwoOpenings;
 use vk_extractor::LaneErr;
-use vk_judge::{LaneChecker, Statement, TwoLane};
+use vk_judge::{Checker, Statement, TwoLane};
 use vk_residue::NoMemory;
 use vk_row::LaneCase;
 use vk_seq::Seq;
@@ -25,22 +26,22 @@ pub type Gathered = Result<Seq<LaneBids>, TwoOpenings>;
 ///
 /// A clash, of this lane or of one before it, is answered whatever memory there is. Errs for want
 /// of memory, where there is none.
-pub fn with_lane(
+pub fn with_lane<H: Drop, R: Copy>(
     alloc: Global,
-    checker: &LaneChecker,
+    checker: &Checker<H, R>,
     lane: &TwoLane,
     before: Gathered,
 ) -> Result<Gathered, NoMemory>
     requires { IsLastLane checker.now lane.now }
-    ensures added { IfSome (base_of checker.now) (λ base. IfOk result (λ after.
-        added base.statement (given_of checker.now) lane.now before ≡ after)) }
-    ensures clash { IfSome (base_of checker.now) (λ base.
-        IfErr (added base.statement (given_of checker.now) lane.now before)
+    ensures added { IfSome (checked_base checker.now) (λ known. IfOk result (λ after.
+        added known.base.statement (checked_given checker.now) lane.now before ≡ after)) }
+    ensures clash { IfSome (checked_base checker.now) (λ known.
+        IfErr (added known.base.statement (checked_given checker.now) lane.now before)
         (λ two. result ≡ Ok (Err two))) }
     ensures wanting { IsErr result → MemoryWasWanting }
-    ensures opens { IfSome (base_of checker.now)
-        (λ base. IfOk before (All (LaneOpens base.statement))
-        → IfOk result (λ after. IfOk after (All (LaneOpens base.statement)))) }
+    ensures opens { IfSome (checked_base checker.now)
+        (λ known. IfOk before (All (LaneOpens known.base.statement))
+        → IfOk result (λ after. IfOk after (All (LaneOpens known.base.statement)))) }
 {
     match before {
         Ok(bids) => {
@@ -53,21 +54,22 @@ pub fn with_lane(
 
 /// With the bids of the lane, or its first clash, which is answered whatever memory there is.
 #[tactic(auto, using(vk_judge::specs::Wanting::memory_was_wanting))]
-fn with_more(
+fn with_more<H: Drop, R: Copy>(
     alloc: Global,
-    checker: &LaneChecker,
+    checker: &Checker<H, R>,
     lane: &TwoLane,
     before: Seq<LaneBids>,
 ) -> Result<Gathered, NoMemory>
     requires { IsLastLane checker.now lane.now }
-    ensures added { IfSome (base_of checker.now) (λ base. IfOk result (λ after.
-        added base.statement (given_of checker.now) lane.now (Ok before) ≡ after)) }
-    ensures clash { IfSome (base_of checker.now) (λ base.
-        IfErr (lane_found base.statement (given_of checker.now) lane.now)
+    ensures added { IfSome (checked_base checker.now) (λ known. IfOk result (λ after.
+        added known.base.statement (checked_given checker.now) lane.now (Ok before) ≡ after)) }
+    ensures clash { IfSome (checked_base checker.now) (λ known.
+        IfErr (lane_found known.base.statement (checked_given checker.now) lane.now)
         (λ two. result ≡ Ok (Err two))) }
     ensures wanting { IsErr result → MemoryWasWanting }
-    ensures opens { IfSome (base_of checker.now) (λ base. All (LaneOpens base.statement) before
-        → IfOk result (λ after. IfOk after (All (LaneOpens base.statement)))) }
+    ensures opens { IfSome (checked_base checker.now)
+        (λ known. All (LaneOpens known.base.statement) before
+        → IfOk result (λ after. IfOk after (All (LaneOpens known.base.statement)))) }
 {
     let mut bids = before;
     let number = u32::from(lane.case.lane);

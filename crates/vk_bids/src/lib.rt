@@ -24,7 +24,7 @@ pub use extracting::extract_bids;
 pub use extraction::{Extracted, Extraction, extract};
 pub use file_extraction::{FileExtraction, OpenedFile, extract_checked, extract_file};
 pub use gathering::add_lane;
-pub use lane_extraction::{LaneExtraction, OpenedLanes, extract_lanes};
+pub use lane_extraction::OpenedLanes;
 pub use laws::{
     a_secret_is_bound_by_accepted_replies, accepted_lanes_open_values,
     accepted_lanes_show_the_outcome, accepted_replies_give_bids_or_a_clash,

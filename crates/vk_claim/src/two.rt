@@ -1,9 +1,9 @@
 // Two replies to a claim file, side by side.
-ghost use Rattle.std.specs.Prelude.{◌≡◌, None, Some, IfOk, IfSome, IsErrOf, IsSomeAnd};
+ghost use Rattle.std.specs.Prelude.{◌≡◌, Some, IfOk, IfSome, IsErrOf, IsSomeAnd};
 ghost use Rattle.vk_lines.specs.Gives.{Gives};
 ghost use Rattle.vk_lines.specs.Lines.{OnlyReads};
 ghost use Rattle.vk_judge.specs.Begun.{unread_file};
-ghost use Rattle.vk_judge.specs.Opened.{CheckedGoesOn, HasOpened, IsCheckedOver, IsLaneStep, checked_base, checked_given, coming_of};
+ghost use Rattle.vk_judge.specs.Opened.{GivesNext, HasOpened, IsCheckedOver, checked_base, checked_given, coming_of};
 ghost use Rattle.vk_judge.specs.Two.{BothAreAccepted};
 ghost use Rattle.vk_judge.specs.Wanting.{MemoryWasWanting};
 ghost use Rattle.vk_claim.specs.Two.{IsClaimBase, as_claim_finding, claim_finding, two_claims_on};
@@ -84,12 +84,7 @@ impl ClaimChecker {
         alloc: Global,
         shelf: &mut S,
     ) -> Result<(Self, Option<TwoLane>), OutsideErr>
-        ensures modelled { IfSome (S.held shelf.old)
-            (λ files. IfOk result (λ next. CheckedGoesOn self next.1 next.0 files)) }
-        ensures step { IfOk result (λ next. IsLaneStep self next.1 next.0) }
-        ensures wanting { IsErrOf result OutsideErr.NoMemory → MemoryWasWanting }
-        ensures shelf { OnlyReads S.held S.Shelf.faults OutsideErr.Failed result shelf.old
-            shelf.new }
+        ensures next { GivesNext S.held S.Shelf.faults self result shelf.old shelf.new }
     {
         let ClaimChecker { checker } = self;
         let (checker, lane) = checker.next_lane(alloc, shelf)?;

@@ -17,7 +17,5 @@ pub mod Bits
 pub mod TwoFound
 pub mod TwoLaw
 pub mod TwoValues
-pub mod Held
-pub mod Checked
 pub mod FileForms
 pub mod HeldFiles

@@ -6,6 +6,7 @@ use Rattle.vk_residue.specs.Steps.{◌>>=◌}
 use Rattle.vk_io.specs.Files.{Files}
 use Rattle.vk_lines.specs.Lines.{Rest}
 use Rattle.vk_judge.specs.declared.answers.Fault.{Fault}
+use Rattle.vk_judge.specs.declared.opened.Refusal.{Refusal}
 use Rattle.vk_judge.specs.declared.stage.Course.{Course}
 use Rattle.vk_judge.specs.declared.stage.Stage.TheVariants.{Running}
 use Rattle.vk_judge.specs.declared.halt.Halt.{Halt}
@@ -14,7 +15,8 @@ use Rattle.vk_judge.specs.declared.stage.Finding.{Finding}
 use Rattle.vk_judge.specs.declared.stage.Base.{Base}
 use Rattle.vk_judge.specs.declared.halt.Halt.TheVariants.{Refused, Failed, NoMemory}
 use Rattle.vk_judge.specs.Behind.{Judges}
-use Rattle.vk_judge.specs.Two.{IsFound, GivesLane, Rests, Ahead, over, of_first, of_second, found_by, is_refused, accepted_of, two_lane_at, ends_found, ahead_from, ahead_on, ahead_after, ahead_of, ahead_unless, rests_of}
+use Rattle.vk_judge.specs.Two.{IsFound, IsTwoLane, GivesLane, Rests, Ahead, over, of_first, of_second, found_by, is_refused, accepted_of, two_lane_at, ends_found, ahead_from, ahead_on, ahead_after, rests_of}
+use Rattle.vk_judge.specs.Opened.{IsCourse, IsNextOfFile, ahead_unless, as_ahead, coming_of, with_head}
 
 -- an error that is handed on
 pub returned : {X T : Type 0} (held : Option Files) (result : Result T (Halt (Finding Fault)))
@@ -212,17 +214,34 @@ none_of None none = refl
 none_of (Some x) none = cc
 
 -- a step of a course on which nothing was found so far
-pub went_on : (held : Option Files) (course : Course) (step : Result TwoLane (Halt (Finding Fault)))
-    (new : Files → Rests) (P : Files → Ahead Fault → Type 0)
+pub went_on : {H R : Type 0} (held : Option Files) (course : Course H R)
+    (step : Result TwoLane (Halt (Finding Fault)))
+    (new : Files → Rests) (P : Files → Ahead (Refusal R) → Type 0)
     → is_some course.finding ≡ false
     → ((files : Files) (before : Ahead Fault)
-    → GivesLane before step (ahead_on course.base (course.given + 1) (new files)) → P files before)
+    → GivesLane before step (ahead_on course.base (course.given + 1) (new files))
+    → P files (as_ahead before))
     → IfSome held (λ files. GivesLane
     (ahead_on course.base course.given (rests_of course.readers files)) step
     (ahead_on course.base (course.given + 1) (new files)))
-    → IfSome held (λ files. P files (ahead_of (Running course) files))
+    → IfSome held (λ files. P files (coming_of (Running course) files).ahead)
 went_on None course step new P none goes is = tt
 went_on (Some files) course step new P none goes is =
     let ahead = ahead_on course.base course.given (rests_of course.readers files) in
-    subst (λ finding. P files (ahead_unless finding ahead)) (sym (none_of course.finding none))
-    (goes files ahead is)
+    subst (λ finding. P files (ahead_unless finding (as_ahead ahead)))
+    (sym (none_of course.finding none)) (goes files ahead is)
+
+-- a lane that is given is the next one
+pub next_given : {H R : Type 0} (old new : Course H R) (lane : Option TwoLane) → IsCourse new
+    → IfSome lane (λ lane. (new.given ≡ old.given + 1)
+    × IsTwoLane new.base.statement new.given lane)
+    → IfSome lane (IsNextOfFile (Running old) (Running new))
+next_given old new None right is = tt
+next_given old new (Some lane) right is = record {
+  known = with_head new.head new.base;
+  is = refl;
+  right = right.base;
+  count = is.0;
+  within = right.within;
+  checked = is.1;
+}

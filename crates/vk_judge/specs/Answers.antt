@@ -23,6 +23,7 @@ use Rattle.vk_judge.specs.declared.stage.TwoReaders.{TwoReaders}
 use Rattle.vk_judge.specs.declared.stage.Course.{Course}
 use Rattle.vk_judge.specs.declared.stage.Stage.{Stage}
 use Rattle.vk_judge.specs.declared.stage.Stage.TheVariants.{Before, Running}
+use Rattle.vk_judge.specs.Opened.{as_found}
 use Rattle.vk_judge.specs.Two.{second_fault}
 
 -- what was read of a file: a fault of its form is the fault
@@ -76,22 +77,44 @@ ends_halt accepted (Err Failed) second = Failed
 ends_halt accepted (Err NoMemory) second = NoMemory
 
 -- before the first lane, where there is no fault before it
-abbrev pub start_answer : Result Base (Halt (Finding Fault)) → TwoReaders → Result Stage OutsideErr
-start_answer (Ok base) readers =
-    Ok (Running (record { base = base; readers = readers; given = 0; finding = None }))
-start_answer (Err (Refused finding)) readers = Ok (Before finding)
-start_answer (Err Failed) readers = Err line.Failed
-start_answer (Err NoMemory) readers = Err line.NoMemory
+abbrev pub start_answer : {H R : Type 0} → H → Result Base (Halt (Finding Fault)) → TwoReaders
+    → Result (Stage H R) OutsideErr
+start_answer head (Ok base) readers = Ok (Running (record {
+  head = head;
+  base = base;
+  readers = readers;
+  given = 0;
+  finding = None;
+}))
+start_answer head (Err (Refused finding)) readers = Ok (Before (as_found finding))
+start_answer head (Err Failed) readers = Err line.Failed
+start_answer head (Err NoMemory) readers = Err line.NoMemory
 
 -- after a step from so many lanes
-abbrev pub step_answer : Base → TwoReaders → ℕ → Result TwoLane (Halt (Finding Fault))
-    → Result (Course × Option TwoLane) OutsideErr
-step_answer base readers given (Ok lane) =
-    Ok (record { base = base; readers = readers; given = given + 1; finding = None }, Some lane)
-step_answer base readers given (Err (Refused finding)) =
-    Ok (record { base = base; readers = readers; given = given; finding = Some finding }, None)
-step_answer base readers given (Err Failed) = Err line.Failed
-step_answer base readers given (Err NoMemory) = Err line.NoMemory
+abbrev pub step_answer : {H R : Type 0} → H → Base → TwoReaders → ℕ
+    → Result TwoLane (Halt (Finding Fault)) → Result (Course H R × Option TwoLane) OutsideErr
+step_answer head base readers given (Ok lane) = Ok (
+  record {
+    head = head;
+    base = base;
+    readers = readers;
+    given = given + 1;
+    finding = None;
+  },
+  Some lane,
+)
+step_answer head base readers given (Err (Refused finding)) = Ok (
+  record {
+    head = head;
+    base = base;
+    readers = readers;
+    given = given;
+    finding = Some (as_found finding);
+  },
+  None,
+)
+step_answer head base readers given (Err Failed) = Err line.Failed
+step_answer head base readers given (Err NoMemory) = Err line.NoMemory
 
 -- what was come to, where a refusal is one of the values
 abbrev pub known_answer : {X V : Type 0} → Result X (Halt V) → Result (Result X V) OutsideErr

@@ -1,20 +1,25 @@
 -- Files of any form, from their first lines on: what stands before the first lane, and then what
 -- stands behind it.
-use Rattle.std.specs.Prelude.{◌≡◌, ℕ, false, List, Option, Some, None, IsSome, IfOk, IfSome, option_map, Result, Ok, Err}
+use Rattle.std.specs.Prelude.{◌≡◌, ◌⊎◌, ℕ, ◌+◌, ◌≤◌, false, List, Option, Some, None, IsSome, IfOk, IfSome, IsErrOf, option_map, Result, Ok, Err}
 use Rattle.vk_io.specs.Files.{Files}
-use Rattle.vk_lines.specs.Lines.{Rest}
+use Rattle.vk_io.specs.declared.errors.OutsideErr.{OutsideErr}
+use Rattle.vk_io.specs.declared.errors.OutsideErr.TheVariants as outside
+use Rattle.vk_lines.specs.Lines.{OnlyReads, Rest}
 use Rattle.vk_judge.specs.declared.answers.Fault.{Fault}
 use Rattle.vk_judge.specs.declared.opened.Opened.{Opened}
 use Rattle.vk_judge.specs.declared.opened.Refusal.{Refusal}
 use Rattle.vk_judge.specs.declared.opened.Refusal.TheVariants as refusal
-use Rattle.vk_judge.specs.declared.checker.FileCourse.{FileCourse}
 use Rattle.vk_judge.specs.declared.stage.Base.{Base}
+use Rattle.vk_judge.specs.declared.stage.Course.{Course}
 use Rattle.vk_judge.specs.declared.stage.Finding.{Finding}
 use Rattle.vk_judge.specs.declared.stage.Finding.TheVariants.{Refused, Same, Ready}
+use Rattle.vk_judge.specs.declared.stage.Stage.{Stage}
+use Rattle.vk_judge.specs.declared.stage.Stage.TheVariants.{Before, Running}
 use Rattle.vk_judge.specs.declared.stage.TwoLane.{TwoLane}
 use Rattle.vk_judge.specs.Behind.{behind_judged}
 use Rattle.vk_judge.specs.Begun.{from_start}
-use Rattle.vk_judge.specs.Two.{Ahead, IsNextLane, IsStage, ahead_behind, ahead_of, base_behind, base_in, base_of, finding_of, given_of, over, with_lane}
+use Rattle.vk_judge.specs.Two.{Ahead, BothAreAccepted, IsBase, IsTwoLane, ahead_behind, ahead_on, base_behind, base_in, over, rests_of, with_lane}
+use Rattle.vk_judge.specs.Wanting.{MemoryWasWanting}
 
 -- how files of a form are read before their first lane: H is what their head says, and R what a
 -- file may be refused for by what its front says
@@ -107,31 +112,48 @@ coming_in front file challenge reply other second =
 -- ---- how far two replies to a file were read: lane by lane, or not past a refusal
 
 abbrev pub Checked : Type 0 → Type 0 → Type 0
-Checked H R = Result (FileCourse H) (Refusal R)
+Checked H R = Stage H R
+
+-- every lane was given, where both replies are accepted
+abbrev pub IsRight : {V : Type 0} → Base → ℕ → Finding V → Type 0
+IsRight base given finding = (¬ BothAreAccepted finding) ⊎ (given ≡ base.statement.lanes)
+
+pub record IsCourse {H R : Type 0} (course : Course H R) : Type 0 where
+  pub base : IsBase course.base
+  pub within : course.given ≤ course.base.statement.lanes
+  pub finding : IfSome course.finding (IsRight course.base course.given)
 
 abbrev pub IsChecked : {H R : Type 0} → Checked H R → Type 0
-IsChecked checked = IfOk checked (λ course. IsStage course.lanes)
+IsChecked (Before finding) = ¬ BothAreAccepted finding
+IsChecked (Running course) = IsCourse course
 
 -- what was found, where no lane is given any more
 abbrev pub checked_finding : {H R : Type 0} → Checked H R → Option (Finding (Refusal R))
-checked_finding (Ok course) = option_map as_found (finding_of course.lanes)
-checked_finding (Err refusal) = Some (Refused false refusal)
+checked_finding (Before finding) = Some finding
+checked_finding (Running course) = course.finding
 
 -- what was read before the first lane, where there was no fault so far
 abbrev pub checked_base : {H R : Type 0} → Checked H R → Option (FileBase H)
-checked_base (Ok course) = option_map (with_head course.head) (base_of course.lanes)
-checked_base (Err refusal) = None
+checked_base (Before finding) = None
+checked_base (Running course) = Some (with_head course.head course.base)
 
 -- how many lanes were given
 abbrev pub checked_given : {H R : Type 0} → Checked H R → ℕ
-checked_given (Ok course) = given_of course.lanes
-checked_given (Err refusal) = 0
+checked_given (Before finding) = 0
+checked_given (Running course) = course.given
+
+abbrev pub ahead_unless : {V : Type 0} → Option (Finding V) → Ahead V → Ahead V
+ahead_unless (Some finding) ahead = over finding
+ahead_unless None ahead = ahead
 
 -- what is still to be given and found of the files
 abbrev pub coming_of : {H R : Type 0} → Checked H R → Files → Coming H R
-coming_of (Ok course) files =
-    coming_with course.head (base_of course.lanes) (ahead_of course.lanes files)
-coming_of (Err refusal) files = refused refusal
+coming_of (Before finding) files = record { base = None; ahead = over finding }
+coming_of (Running course) files = record {
+  base = Some (with_head course.head course.base);
+  ahead = ahead_unless course.finding
+      (as_ahead (ahead_on course.base course.given (rests_of course.readers files)));
+}
 
 -- the head and the statement are known
 abbrev pub HasOpened : {H R : Type 0} → Checked H R → Type 0
@@ -141,19 +163,26 @@ HasOpened checked = IsSome (checked_base checked)
 abbrev pub IsCheckedOver : {H R : Type 0} → Checked H R → Type 0
 IsCheckedOver checked = IsSome (checked_finding checked)
 
--- a lane is given, and then what is ahead of what was read further; or what is found
+-- a lane is given of what was ahead, and then what is ahead of what was read further; or what is
+-- found
+abbrev pub GoesOn : {H R : Type 0} → Ahead (Refusal R) → Option TwoLane → Checked H R → Files
+    → Type 0
+GoesOn before (Some lane) new files = before ≡ with_lane lane (coming_of new files).ahead
+GoesOn {H} {R} before None new files =
+    (found : Finding (Refusal R)) × (checked_finding new ≡ Some found) × (before ≡ over found)
+
 abbrev pub CheckedGoesOn : {H R : Type 0} → Checked H R → Option TwoLane → Checked H R → Files
     → Type 0
-CheckedGoesOn old (Some lane) new files =
-    (coming_of old files).ahead ≡ with_lane lane (coming_of new files).ahead
-CheckedGoesOn {H} {R} old None new files =
-    (found : Finding (Refusal R)) × (checked_finding new ≡ Some found)
-    × ((coming_of old files).ahead ≡ over found)
+CheckedGoesOn old lane new files = GoesOn (coming_of old files).ahead lane new files
 
 -- a lane that is given is the next one of the file's lanes
-abbrev pub IsNextOfFile : {H R : Type 0} → Checked H R → Checked H R → TwoLane → Type 0
-IsNextOfFile (Ok old) (Ok new) lane = IsNextLane old.lanes new.lanes lane
-IsNextOfFile _ _ lane = ⊥
+pub record IsNextOfFile {H R : Type 0} (old new : Checked H R) (lane : TwoLane) : Type 0 where
+  pub known : FileBase H
+  pub is : checked_base new ≡ Some known
+  pub right : IsBase known.base
+  pub count : checked_given new ≡ checked_given old + 1
+  pub within : checked_given new ≤ known.base.statement.lanes
+  pub checked : IsTwoLane known.base.statement (checked_given new) lane
 
 -- one step: the next lane is given, or none, where no lane is given any more; what was read before
 -- the first lane stays
@@ -162,3 +191,18 @@ pub record IsLaneStep {H R : Type 0} (old : Checked H R) (lane : Option TwoLane)
   pub next : IfSome lane (IsNextOfFile old new)
   pub none : lane ≡ None → IsCheckedOver new × (checked_given new ≡ checked_given old)
   pub base : checked_base new ≡ checked_base old
+
+-- what a checker answers that is asked for its next lane, with what is held of the files and the
+-- count of faults
+pub record GivesNext {H R S : Type 0} (held : S → Option Files) (faults : S → ℕ)
+    (checked : Checked H R) (result : Result (Checked H R × Option TwoLane) OutsideErr)
+    (old new : S) : Type 0 where
+  -- of modelled files, what was ahead goes on
+  pub modelled : IfSome (held old)
+      (λ files. IfOk result (λ next. CheckedGoesOn checked next.1 next.0 files))
+  -- modelled or not, it is one step
+  pub step : IfOk result (λ next. IsLaneStep checked next.1 next.0)
+  -- it gives up only for want of memory
+  pub wanting : IsErrOf result outside.NoMemory → MemoryWasWanting
+  -- every fault is answered, and nothing else is
+  pub shelf : OnlyReads held faults outside.Failed result old new

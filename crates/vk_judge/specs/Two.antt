@@ -1,5 +1,5 @@
 -- Two replies side by side, behind a front: what is given of each lane, and what is found.
-use Rattle.std.specs.Prelude.{◌≡◌, ◌⊎◌, ℕ, ◌+◌, ◌≤◌, ◌&&◌, Bool, true, false, not, if◌then◌else◌, List, [], ◌∷◌, length, drop, Option, Some, None, IsSome, IfSome, Result, Ok, Err}
+use Rattle.std.specs.Prelude.{◌≡◌, ℕ, ◌+◌, ◌&&◌, Bool, true, false, not, if◌then◌else◌, List, [], ◌∷◌, length, drop, Option, Some, None, Result, Ok, Err}
 use Rattle.vk_residue.specs.Steps.{◌>>=◌}
 use Rattle.vk_io.specs.Files.{Files}
 use Rattle.vk_lines.specs.Lines.{Rest, rest_of, end_at}
@@ -18,9 +18,6 @@ use Rattle.vk_judge.specs.declared.stage.Finding.TheVariants.{Refused, Same, Rea
 use Rattle.vk_judge.specs.declared.stage.Base.{Base}
 use Rattle.vk_judge.specs.declared.stage.TwoReaders.{TwoReaders}
 use Rattle.vk_judge.specs.declared.stage.TwoAttempts.{TwoAttempts}
-use Rattle.vk_judge.specs.declared.stage.Course.{Course}
-use Rattle.vk_judge.specs.declared.stage.Stage.{Stage}
-use Rattle.vk_judge.specs.declared.stage.Stage.TheVariants.{Before, Running}
 use Rattle.vk_judge.specs.Statement.{StatementValue, IsStatement}
 use Rattle.vk_judge.specs.Behind.{in_part, ends_judged}
 use Rattle.vk_judge.specs.Parts.{case_at, reply_judged, attempt_at, rest_judged, IsLaneCase}
@@ -260,66 +257,3 @@ pub record IsTwoLane (s : StatementValue) (number : ℕ) (lane : TwoLane) : Type
   pub case : IsLaneCase s number lane.case
   pub first : IsAccepted s.plan lane.case lane.first_bit lane.first
   pub second : IsAccepted s.plan lane.case lane.second_bit lane.second
-
--- ---- how far two replies were read
-
--- what was found, where no lane is given any more
-abbrev pub finding_of : Stage → Option (Finding Fault)
-finding_of (Before finding) = Some finding
-finding_of (Running course) = course.finding
-
--- what was read before the first lane, where there was no fault so far
-abbrev pub base_of : Stage → Option Base
-base_of (Before finding) = None
-base_of (Running course) = Some course.base
-
--- how many lanes were given
-abbrev pub given_of : Stage → ℕ
-given_of (Before finding) = 0
-given_of (Running course) = course.given
-
-abbrev pub ahead_unless : Option (Finding Fault) → Ahead Fault → Ahead Fault
-ahead_unless (Some finding) ahead = over finding
-ahead_unless None ahead = ahead
-
--- what is still to be given and found of the files
-abbrev pub ahead_of : Stage → Files → Ahead Fault
-ahead_of (Before finding) files = over finding
-ahead_of (Running course) files =
-    ahead_unless course.finding (ahead_on course.base course.given (rests_of course.readers files))
-
--- a lane is given, and then what is ahead of the new stage; or what is found
-abbrev pub GoesOn : Ahead Fault → Option TwoLane → Stage → Files → Type 0
-GoesOn before (Some lane) stage files = before ≡ with_lane lane (ahead_of stage files)
-GoesOn before None stage files = (finding : Finding Fault) × (finding_of stage ≡ Some finding)
-    × (before ≡ over finding)
-
--- every lane was given, where both replies are accepted
-abbrev pub IsRight : Base → ℕ → Finding Fault → Type 0
-IsRight base given finding = (¬ BothAreAccepted finding) ⊎ (given ≡ base.statement.lanes)
-
-pub record IsCourse (course : Course) : Type 0 where
-  pub base : IsBase course.base
-  pub within : course.given ≤ course.base.statement.lanes
-  pub finding : IfSome course.finding (IsRight course.base course.given)
-
-abbrev pub IsStage : Stage → Type 0
-IsStage (Before finding) = ¬ BothAreAccepted finding
-IsStage (Running course) = IsCourse course
-
--- no lane is given any more
-abbrev pub IsOver : Stage → Type 0
-IsOver stage = IsSome (finding_of stage)
-
--- the statement is known
-abbrev pub HasBase : Stage → Type 0
-HasBase stage = IsSome (base_of stage)
-
--- a lane that is given is the next one
-pub record IsNextLane (old new : Stage) (lane : TwoLane) : Type 0 where
-  pub base : Base
-  pub is : base_of new ≡ Some base
-  pub right : IsBase base
-  pub count : given_of new ≡ given_of old + 1
-  pub within : given_of new ≤ base.statement.lanes
-  pub checked : IsTwoLane base.statement (given_of new) lane

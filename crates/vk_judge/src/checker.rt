@@ -1,18 +1,21 @@
 // Files of any form: what is judged of one reply, and of two side by side.
-ghost use Rattle.std.specs.Prelude.{◌≡◌, Ok, Some, None, IfOk, IfSome, IsErrOf, IsSomeAnd};
+ghost use Rattle.std.specs.Prelude.{◌≡◌, Ok, Some, IfOk, IfSome, IsErrOf, IsSomeAnd};
 ghost use Rattle.vk_lines.specs.Lines.{OnlyReads};
 ghost use Rattle.vk_judge.specs.Begun.{of_begun};
 ghost use Rattle.vk_judge.specs.Behind.{and_rest};
-ghost use Rattle.vk_judge.specs.Two.{BothAreAccepted, IsStage, of_two};
+ghost use Rattle.vk_judge.specs.Statement.{IsStatement};
+ghost use Rattle.vk_judge.specs.Two.{BothAreAccepted, of_two};
 ghost use Rattle.vk_judge.specs.Wanting.{MemoryWasWanting};
-ghost use Rattle.vk_judge.specs.Opened.{CheckedGoesOn, HasOpened, IsCheckedOver, IsLaneStep, as_found, checked_base, checked_finding, checked_given, coming_of, coming_past, in_file, judged_past, opened_in};
+ghost use Rattle.vk_judge.specs.Opened.{GivesNext, HasOpened, IsCheckedOver, checked_base, checked_finding, checked_given, coming_of, coming_past, in_file, judged_past, opened_in};
 
 use crate::answers::Fault;
 use crate::halt::known;
 use crate::judging::judge_behind;
 use crate::opened::{Opened, Refusal};
-use crate::stage::{Attempt, Finding, TwoAttempts, TwoLane};
-use crate::two::LaneChecker;
+use crate::stage::{Attempt, Finding, Stage, TwoAttempts, TwoLane};
+use crate::statement::Statement;
+use crate::two::{next_on_course, stage_on};
+use crate::two_lane::begin_lanes;
 use std::alloc::Global;
 use std::marker::Model;
 use vk_io::{OutsideErr, Shelf};
@@ -49,19 +52,12 @@ fn in_file<R: Copy>(judged: Result<(), Fault>) -> Result<(), Refusal<R>>
     }
 }
 
-/// A file whose lanes are read beside two replies: its head, and how far the lanes were read.
-#[derive(Drop)]
-pub struct FileCourse<H> {
-    pub head: H,
-    pub lanes: LaneChecker,
-}
-
 /// Reads a file, a challenge and the reply to it, and another challenge and the reply to that, lane
 /// by lane. A lane is given where both replies are accepted so far. Once no lane is given any more,
 /// it tells what the replies come to.
 #[derive(Drop)]
 pub struct Checker<H, R> {
-    course: Result<FileCourse<H>, Refusal<R>>,
+    stage: Stage<H, R>,
 }
 
 impl<H, R> Model for Checker<H, R> {
@@ -69,14 +65,15 @@ impl<H, R> Model for Checker<H, R> {
 
     ghost Value = { Checked H R };
 
-    ghost view = { λ c. c.course };
+    ghost view = { λ c. c.stage };
 
-    ghost invariant = { λ c. IsChecked c.course };
+    ghost invariant = { λ c. IsChecked c.stage };
 }
 
 impl<H: Drop, R: Copy> Checker<H, R> {
     /// Reads both challenges and the heads of both replies, of a file that was opened and is read
     /// up to its first lane. Errs where the shelf fails, and for want of memory.
+    #[tactic(auto, using(crate::specs::Wanting::memory_was_wanting))]
     pub fn begin<S: Shelf>(
         alloc: Global,
         shelf: &mut S,
@@ -94,15 +91,28 @@ impl<H: Drop, R: Copy> Checker<H, R> {
             shelf.new }
     {
         match opened {
-            Err(refusal) => Ok(Checker {
-                course: Err(refusal),
-            }),
+            Err(verdict) => {
+                let second = false;
+                let stage = Stage::Before(Finding::Refused { second, verdict });
+                Ok(Checker { stage })
+            }
             Ok(opened) => {
                 let Opened { head, statement } = opened;
-                let lanes = LaneChecker::begin(alloc, shelf, statement, two)?;
-                Ok(Checker {
-                    course: Ok(FileCourse { head, lanes }),
-                })
+                let TwoAttempts {
+                    mut first_challenge,
+                    mut second_challenge,
+                    mut readers,
+                } = two;
+                let base = begin_lanes(
+                    alloc,
+                    shelf,
+                    statement,
+                    &mut first_challenge,
+                    &mut second_challenge,
+                    &mut readers,
+                );
+                let stage = stage_on(head, base, readers)?;
+                Ok(Checker { stage })
             }
         }
     }
@@ -110,29 +120,24 @@ impl<H: Drop, R: Copy> Checker<H, R> {
     /// Gives the next lane, where both replies are accepted so far, and none where every lane was
     /// given or one of the replies has its fault in the lane or before it. What they come to is
     /// known then.
+    #[tactic(auto, using(crate::specs::Wanting::memory_was_wanting))]
     pub fn next_lane<S: Shelf>(
         self,
         alloc: Global,
         shelf: &mut S,
     ) -> Result<(Self, Option<TwoLane>), OutsideErr>
-        ensures modelled { IfSome (S.held shelf.old)
-            (λ files. IfOk result (λ next. CheckedGoesOn self next.1 next.0 files)) }
-        ensures step { IfOk result (λ next. IsLaneStep self next.1 next.0) }
-        ensures wanting { IsErrOf result OutsideErr.NoMemory → MemoryWasWanting }
-        ensures shelf { OnlyReads S.held S.Shelf.faults OutsideErr.Failed result shelf.old
-            shelf.new }
+        ensures next { GivesNext S.held S.Shelf.faults self result shelf.old shelf.new }
     {
-        let Checker { course } = self;
-        match course {
-            Err(refusal) => {
-                let course = Err(refusal);
-                Ok((Checker { course }, None))
+        let Checker { stage } = self;
+        match stage {
+            Stage::Before(finding) => {
+                let stage = Stage::Before(finding);
+                Ok((Checker { stage }, None))
             }
-            Ok(course) => {
-                let FileCourse { head, lanes } = course;
-                let (lanes, lane) = lanes.next_lane(alloc, shelf)?;
-                let course = Ok(FileCourse { head, lanes });
-                Ok((Checker { course }, lane))
+            Stage::Running(course) => {
+                let (course, lane) = next_on_course(alloc, shelf, course)?;
+                let stage = Stage::Running(course);
+                Ok((Checker { stage }, lane))
             }
         }
     }
@@ -145,12 +150,25 @@ impl<H: Drop, R: Copy> Checker<H, R> {
             → IsSomeAnd (checked_base self.now)
             (λ known. checked_given self.now ≡ known.base.statement.lanes) }
     {
-        match &self.course {
-            Ok(course) => as_found(course.lanes.finding()),
-            Err(refusal) => Finding::Refused {
-                second: false,
-                verdict: *refusal,
+        match &self.stage {
+            Stage::Before(finding) => *finding,
+            Stage::Running(course) => match course.finding {
+                Some(finding) => finding,
+                None => unreachable!(),
             },
+        }
+    }
+
+    /// What is to be shown lane by lane.
+    pub fn statement(&self) -> &Statement
+        requires { HasOpened self.now }
+        ensures value { IfSome (checked_base self.now)
+            (λ known. known.base.statement ≡ result.now) }
+        ensures right { IsStatement result.now }
+    {
+        match &self.stage {
+            Stage::Running(course) => &course.base.statement,
+            Stage::Before(_) => unreachable!(),
         }
     }
 
@@ -160,10 +178,7 @@ impl<H: Drop, R: Copy> Checker<H, R> {
         ensures { IfSome (checked_base self.now)
             (λ known. known.base.statement.plan ≡ result.now) }
     {
-        match &self.course {
-            Ok(course) => course.lanes.statement().plan(),
-            Err(_) => unreachable!(),
-        }
+        self.statement().plan()
     }
 
     /// What the head of the file says.
@@ -171,32 +186,25 @@ impl<H: Drop, R: Copy> Checker<H, R> {
         requires { HasOpened self.now }
         ensures { IfSome (checked_base self.now) (λ known. known.head ≡ result.now) }
     {
-        match &self.course {
-            Ok(course) => &course.head,
-            Err(_) => unreachable!(),
+        match &self.stage {
+            Stage::Running(course) => &course.head,
+            Stage::Before(_) => unreachable!(),
         }
     }
 
-    /// The head of the file and how far its lanes were read; or why it is refused before them.
-    pub fn into_course(self) -> Result<FileCourse<H>, Refusal<R>>
-        ensures value { self ≡ result }
-        ensures right { IfOk result (λ course. IsStage course.lanes) }
+    /// The head of the file, and what was to be shown lane by lane.
+    pub fn into_opened(self) -> Opened<H>
+        requires { HasOpened self }
+        ensures value { IfSome (checked_base self) (λ known. opened_in known ≡ result) }
+        ensures right { IsStatement result.statement }
     {
-        let Checker { course } = self;
-        course
-    }
-}
-
-/// What is found behind the front, as it is told of the file.
-fn as_found<R: Copy>(finding: Finding<Fault>) -> Finding<Refusal<R>>
-    ensures { result ≡ as_found finding }
-{
-    match finding {
-        Finding::Ready => Finding::Ready,
-        Finding::Same => Finding::Same,
-        Finding::Refused { second, verdict } => {
-            let verdict = Refusal::Fault(verdict);
-            Finding::Refused { second, verdict }
+        let Checker { stage } = self;
+        match stage {
+            Stage::Running(course) => Opened {
+                head: course.head,
+                statement: course.base.statement,
+            },
+            Stage::Before(_) => unreachable!(),
         }
     }
 }

@@ -18,7 +18,7 @@ mod two_lane;
 mod two_laws;
 
 pub use answers::{Fault, Part, VErr};
-pub use checker::{Checker, FileCourse, judge_file};
+pub use checker::{Checker, judge_file};
 pub use halt::{Halt, in_part, known};
 pub use judging::judge_behind;
 pub use laws::what_is_judged_behind_a_front_is_exact;
@@ -26,7 +26,6 @@ pub use named::{OneReply, TwoReplies};
 pub use opened::{Opened, Refusal};
 pub use stage::{Attempt, Base, FileAndReply, Finding, Stage, TwoAttempts, TwoLane, TwoReaders};
 pub use statement::Statement;
-pub use two::LaneChecker;
 pub use two_laws::{
     a_finding_is_by_both_replies, a_finding_is_by_judging_both,
     named_files_come_to_what_their_bytes_do, only_replies_accepted_behind_a_front_are_found_to_be,

@@ -1,5 +1,5 @@
-// How far two replies were read behind a front.
-use crate::answers::Fault;
+// How far two replies to a file were read.
+use crate::opened::Refusal;
 use crate::statement::Statement;
 use vk_lines::Lines;
 use vk_row::LaneCase;
@@ -76,19 +76,21 @@ pub struct TwoAttempts {
     pub readers: TwoReaders,
 }
 
-/// How many lanes were given, and what was found, where no lane is to be given any more.
+/// A file whose lanes are read: its head, what was read before its first lane, how many lanes were
+/// given, and what was found, where no lane is to be given any more.
 #[derive(Drop)]
-pub struct Course {
+pub struct Course<H, R> {
+    pub head: H,
     pub base: Base,
     pub readers: TwoReaders,
     pub given: u32,
-    pub finding: Option<Finding<Fault>>,
+    pub finding: Option<Finding<Refusal<R>>>,
 }
 
 /// How far two replies were read.
 #[derive(Drop)]
-pub enum Stage {
-    /// There is a fault before the first lane.
-    Before(Finding<Fault>),
-    Running(Course),
+pub enum Stage<H, R> {
+    /// The file is refused, or there is a fault before the first lane.
+    Before(Finding<Refusal<R>>),
+    Running(Course<H, R>),
 }

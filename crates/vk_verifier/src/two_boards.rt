@@ -4,7 +4,7 @@ ghost use Rattle.vk_lines.specs.Lines.{OnlyReads};
 ghost use Rattle.vk_lines.specs.Gives.{Gives};
 ghost use Rattle.vk_judge.specs.Wanting.{MemoryWasWanting};
 ghost use Rattle.vk_judge.specs.Begun.{unread_file};
-ghost use Rattle.vk_judge.specs.Opened.{CheckedGoesOn, HasOpened, IsCheckedOver, IsLaneStep, checked_base, checked_given, coming_of, opened_in};
+ghost use Rattle.vk_judge.specs.Opened.{GivesNext, HasOpened, IsCheckedOver, checked_base, checked_given, coming_of, opened_in};
 ghost use Rattle.vk_judge.specs.Two.{BothAreAccepted};
 ghost use Rattle.vk_verifier.specs.Verdicts.{board_front, plan_of};
 ghost use Rattle.vk_verifier.specs.TwoBoards.{IsOfBoard, as_two, board_finding, two_named, two_on};
@@ -101,12 +101,7 @@ impl TwoChecker {
         alloc: Global,
         shelf: &mut S,
     ) -> Result<(TwoChecker, Option<TwoLane>), OutsideErr>
-        ensures modelled { IfSome (S.held shelf.old)
-            (λ files. IfOk result (λ next. CheckedGoesOn self next.1 next.0 files)) }
-        ensures step { IfOk result (λ next. IsLaneStep self next.1 next.0) }
-        ensures wanting { IsErrOf result OutsideErr.NoMemory → MemoryWasWanting }
-        ensures shelf { OnlyReads S.held S.Shelf.faults OutsideErr.Failed result shelf.old
-            shelf.new }
+        ensures next { GivesNext S.held S.Shelf.faults self result shelf.old shelf.new }
     {
         let TwoChecker { checker } = self;
         let (checker, lane) = checker.next_lane(alloc, shelf)?;

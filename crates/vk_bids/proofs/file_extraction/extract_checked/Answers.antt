@@ -1,11 +1,12 @@
-use Rattle.std.proofs.Common.{rules, subst, sym}
-use Rattle.vk_judge.specs.Opened.{checked_base}
-use Rattle.vk_bids.specs.FileExtraction.{OpensBase}
-use Rattle.vk_bids.proofs.FileExtraction.{course_opens}
+use Rattle.std.proofs.lemmas.Option.{IfSome_then}
+use Rattle.vk_judge.specs.Opened.{checked_base, checked_finding}
+use Rattle.vk_bids.proofs.Leading.{concluded}
 use Rattle.vk_bids.proofs.file_extraction.extract_checked.Goals as goal
 
-pub returns-in_ok-found-in-Ok-clause-opens : goal.returns-in_ok-found-in-Ok-clause-opens
-returns-in_ok-found-in-Ok-clause-opens g c =
-    subst (OpensBase (checked_base c.args.checker)) (sym c.with_head-found.ensures)
-    (course_opens c.args.checker c.in-Ok.course c.in_ok-found-in-Ok.found (search rules)
-    c.in_ok-found-in-Ok.ensures.opens c.in_ok-found-in-Ok.ensures.statement)
+pub returns-clause-modelled : goal.returns-clause-modelled
+returns-clause-modelled g c =
+    let end = c.in_ok-checker.checker in
+    IfSome_then (g.S.Shelf.held c.args.shelf.now) c.in_ok-checker.ensures.modelled
+    (λ files comes. concluded c.args.checker files (checked_base end) (checked_finding end)
+    c.in_ok-checker.gathered c.concluded-found.result c.in_ok-checker.ensures.base comes
+    c.concluded-found.ensures.value)

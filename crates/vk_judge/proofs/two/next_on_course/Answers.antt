@@ -1,7 +1,8 @@
-use Rattle.std.proofs.Common.{sym, ◌∙◌}
+use Rattle.std.proofs.Common.{rules, sym, ◌∙◌}
 use Rattle.vk_judge.specs.declared.stage.Stage.TheVariants.{Running}
-use Rattle.vk_judge.specs.Two.{GoesOn, rests_of}
-use Rattle.vk_judge.proofs.TwoFound.{went_on}
+use Rattle.vk_judge.specs.Opened.{GoesOn}
+use Rattle.vk_judge.specs.Two.{rests_of}
+use Rattle.vk_judge.proofs.TwoFound.{next_given, went_on}
 use Rattle.vk_judge.proofs.two.next_on_course.Goals as goal
 
 pub returns-clause-modelled : goal.returns-clause-modelled
@@ -11,3 +12,12 @@ returns-clause-modelled g c =
     (λ files before. GoesOn before c.in_ok-next.next.1 (Running c.in_ok-next.next.0) files)
     (sym c.is_some.ensures ∙ c.if-is_some.false) c.in_ok-next.ensures.modelled
     c.next_step-step.ensures.modelled
+
+pub returns-clause-step : goal.returns-clause-step
+returns-clause-step g c =
+    record {
+      next = next_given c.args.course c.in_ok-next.next.0 c.in_ok-next.next.1
+          c.in_ok-next.ensures.right c.in_ok-next.ensures.next;
+      none = search rules;
+      base = search rules;
+    }
