@@ -20,11 +20,10 @@ use Rattle.vk_house.specs.Once.{KeepsAnswers}
 use Rattle.vk_house.specs.Replies.{HouseReply, Refused}
 use Rattle.vk_house.specs.Steps.{HouseCall}
 use Rattle.vk_house.proofs.Once.{call_keeps}
-use Rattle.vk_effect.specs.declared.reading.Unread.{Unread}
 use Rattle.vk_effect.specs.declared.reading.Unread.TheVariants as unread
 use Rattle.vk_effect.specs.Effects.{Effect, SaidValue, stores}
 use Rattle.vk_effect.specs.Ends.{Acts}
-use Rattle.vk_effect.specs.Reading.{said_of_unread, said_or_stopped}
+use Rattle.vk_effect.specs.Reading.{said_of_unread}
 use Rattle.vk_effect.proofs.Acting.{told_map}
 use Rattle.vk_auctioneer.specs.Answers.{AsksAlone, Leaves, Says}
 use Rattle.vk_auctioneer.specs.Effects.{Writes, asked, effect_by, if_read, no_file, on_both, on_ledger}
@@ -149,30 +148,6 @@ asks_alone gives command said given answer calls says causes =
     }
 
 -- ---- what was read before
-
--- a file that the command is given was not read
-unread_here : {X : Type 0} (effect : X → Effect) (ledger : Ledger) (files : Files)
-    (refusal : Unread) (read : Result X SaidValue)
-    → Gives {T = X} said_of_unread (λ x. x) (Err refusal) read
-    → Acts (said_or_stopped refusal) (if_read ledger effect read)
-    (stores (Some files) (Some ledger)) (stores (Some files) (Some ledger))
-unread_here effect ledger files (unread.Said said) read is =
-    subst (λ r. Acts (Ok said) (if_read ledger effect r) (stores (Some files) (Some ledger))
-    (stores (Some files) (Some ledger))) (sym is) (refl, refl)
-unread_here effect ledger files unread.Failed read is = inl refl
-unread_here effect ledger files unread.NoMemory read is = inl refl
-
-pub unread_acts : {X : Type 0} (effect : Ledger → X → Effect) (read : Files → Result X SaidValue)
-    (refusal : Unread) (held now : Option Files) (ledger : Option Ledger) → now ≡ held
-    → IfSome held (λ files. Gives {T = X} said_of_unread (λ x. x) (Err refusal) (read files))
-    → IfSome (on_both (λ files kept. if_read kept (effect kept) (read files)) held ledger)
-    (λ whole. Acts (said_or_stopped refusal) whole (stores held ledger) (stores now ledger))
-unread_acts effect read refusal None now ledger same is = tt
-unread_acts effect read refusal (Some files) now None same is = tt
-unread_acts effect read refusal (Some files) now (Some ledger) same is =
-    subst (λ left. Acts (said_or_stopped refusal) (if_read ledger (effect ledger) (read files))
-    (stores (Some files) (Some ledger)) (stores left (Some ledger))) (sym same)
-    (unread_here (effect ledger) ledger files refusal (read files) is)
 
 -- it was read, which changed nothing, and the command went on by what it says
 pub read_acts : {X : Type 0} (effect : Ledger → X → Effect) (read : Files → Result X SaidValue)

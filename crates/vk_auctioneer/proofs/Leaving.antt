@@ -69,19 +69,6 @@ divided_begins name text old new (inl (inl same)) = inl same
 divided_begins name text old new (inl (inr first)) = inr first
 divided_begins name text old new (inr whole) = inr (whole_held name text old new whole)
 
--- a command whose files stay however it ends
-abbrev pub WritesNone : HouseWords → Type 0
-WritesNone words = (old new : Files) → new ≡ old → LeavesDone words old new
-
-pub files_stay : (words : HouseWords) (answer : Result SaidValue OutsideErr)
-    (held now : Option Files) → WritesNone words → now ≡ held → LeavesAsSaid words answer held now
-files_stay words answer None now none same = same
-files_stay words answer (Some old) None none same = cc
-files_stay words (Err stop) (Some old) (Some new) none same = inl (same_Some new old same)
-files_stay words (Ok said) (Some old) (Some new) none same =
-    let left = same_Some new old same in
-    record { done = λ _. none old new left; refused = λ _. left }
-
 -- ---- `prove`
 
 -- every job's auction is proved

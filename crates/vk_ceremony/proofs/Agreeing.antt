@@ -129,13 +129,6 @@ apart_parts (b ∷ word) apart =
     let later = apart_parts word parts.1 in
     (rw (both.0, later.0) refl, rw (both.1, later.1) refl)
 
-apart_whole : (word : List ℕ) → lacks 32 word ≡ true → lacks 10 word ≡ true → is_apart word ≡ true
-apart_whole [] spaces feeds = refl
-apart_whole (b ∷ word) spaces feeds =
-    let space = and_parts (not (b == 32)) (lacks 32 word) spaces in
-    let feed = and_parts (not (b == 10)) (lacks 10 word) feeds in
-    rw (space.0, feed.0, apart_whole word space.1 feed.1) refl
-
 -- the fields of words are these words, and no line feed stands among them
 fields_of_words : (first : List ℕ) (words : List (List ℕ))
     → list_all is_apart (first ∷ words) ≡ true → fields_of (spaced (first ∷ words)) ≡ first ∷ words

@@ -1,5 +1,5 @@
 -- From the beginning of a ceremony to its end, turn by turn.
-use Rattle.std.proofs.Common.{◌≡◌, ℕ, Bool, false, List, Option, Some, None, IfSome, Result, Ok, Err, refl, sym, ap, ◌∙◌, subst, inr}
+use Rattle.std.proofs.Common.{◌≡◌, ℕ, Bool, List, Option, Some, None, IfSome, Result, Ok, Err, refl, sym, ap, ◌∙◌, subst, inr}
 use Rattle.std.specs.Prelude.{IsSomeAnd}
 use Rattle.vk_io.specs.declared.errors.OutsideErr.{OutsideErr}
 use Rattle.vk_io.specs.declared.errors.OutsideErr.TheVariants as outside_err
@@ -101,25 +101,6 @@ leads_to_end script lines turn status whole old now new left is leads turns =
     (subst (λ t. IfSome left (λ later. Turns script lines (Ok t) later now new)) is turns)
 
 -- ---- the script's first line
-
--- the script was begun
-pub begun_ceremony : (script : List ℕ) (lines : LinesValue) (held now : Option Files)
-    (ledger : Option Ledger) (taken : Option (List ℕ)) (answer : Result ℕ OutsideErr)
-    (new : Outside) → now ≡ held
-    → IfSome held (λ files. Gives {T = LinesValue} said_of_unread (λ l. rest_of l files) (Ok lines)
-    (script_begun files script))
-    → EndsSome (left_of script false lines (stores now ledger)) answer
-    (outside (stores now ledger) taken) new
-    → EndsSome (ceremony_on held ledger script) answer (outside (stores held ledger) taken) new
-begun_ceremony script lines None now ledger taken answer new same is ends = tt
-begun_ceremony script lines (Some files) now ledger taken answer new same is ends =
-    let here : IfSome (left_of script false lines (stores (Some files) ledger))
-    (λ whole. EndsAll answer whole (outside (stores (Some files) ledger) taken) new) =
-    subst (λ left. IfSome (left_of script false lines (stores left ledger))
-    (λ whole. EndsAll answer whole (outside (stores left ledger) taken) new)) same ends in
-    subst (λ r. IfSome (ceremony_behind script (stores (Some files) ledger) r)
-    (λ whole. EndsAll answer whole (outside (stores (Some files) ledger) taken) new)) (sym is)
-    here
 
 -- it wasn't, and this was said of it
 pub unread_said : (script : List ℕ) (unread : Unread) (said : SaidValue) (files : Files)

@@ -287,18 +287,6 @@ begun_by script lines (Err stop) files (Some new) is left =
 begun_by script lines (Ok status) files (Some new) is left =
     subst (λ r. BehindLeaves script r status files new) (sym is) left
 
--- the script was begun
-pub begun_left : (script : List ℕ) (lines : LinesValue) (held between now : Option Files)
-    (answer : Result ℕ OutsideErr) → between ≡ held
-    → IfSome held (λ files. Gives {T = LinesValue} said_of_unread (λ l. rest_of l files) (Ok lines)
-    (script_begun files script)) → Modelled (HoldLeaves script lines answer) between now
-    → Modelled (LeavesAnswered script answer) held now
-begun_left script lines None between now answer same is left =
-    subst (λ files. Modelled (HoldLeaves script lines answer) files now) same left
-begun_left script lines (Some files) between now answer same is left =
-    begun_by script lines answer files now is
-    (subst (λ held. Modelled (HoldLeaves script lines answer) held now) same left)
-
 -- it wasn't
 pub unread_left : (script : List ℕ) (unread : Unread) (said : SaidValue) (held now : Option Files)
     (taken then_ : Option (List ℕ)) (status : ℕ) → now ≡ held → Ok said ≡ said_or_stopped unread

@@ -3,7 +3,6 @@ mod Writing
 mod Turning
 pub mod Leading
 pub mod Agreeing
-pub mod Each
 pub mod Following
 mod Running
 pub mod Whole

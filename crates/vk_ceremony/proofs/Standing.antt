@@ -235,10 +235,6 @@ ledgers_last = record {
       (asks_right files order are);
 }
 
-pub act_right : (act : HouseAct) → AreHouseWords act.order → IsAct act → IsLedger act.ledger
-    → IsLedger act.kept
-act_right act are is = act_lasts StaysLedger AreHouseWords ledgers_last act are is
-
 pub acts_right : (acts : List HouseAct) (files : Files) (ledger : Ledger) (left : Files)
     (kept : Ledger) → AllByRecursion AreHouseWords (map (λ (act : HouseAct). act.order) acts)
     → AreActs acts files ledger left kept → IsLedger ledger → IsLedger kept
@@ -285,15 +281,6 @@ answers_last = record {
   further = keeps_on;
   one = λ files ledger order any. keeps_by (asked_in files order) ledger;
 }
-
-pub act_keeps : (act : HouseAct) → IsAct act → KeepsAnswers act.ledger act.kept
-act_keeps act is = act_lasts KeepsAnswers AreAny answers_last act tt is
-
-pub acts_keep : (acts : List HouseAct) (files : Files) (ledger : Ledger) (left : Files)
-    (kept : Ledger) → AreActs acts files ledger left kept → KeepsAnswers ledger kept
-acts_keep acts files ledger left kept are =
-    acts_last KeepsAnswers AreAny answers_last acts files ledger left kept
-    (all_any (map (λ (act : HouseAct). act.order) acts)) are
 
 -- what lies before one that was stopped
 pub right_before : (orders : List HouseWords) (files : Files) (ledger : Ledger)

@@ -12,7 +12,7 @@ use Rattle.vk_report.specs.declared.sample.SampleCase.{SampleCase}
 use Rattle.vk_report.specs.Samples.{IsCaseOf}
 use Rattle.vk_words.specs.declared.claim.ClaimKind.{ClaimKind}
 use Rattle.vk_words.specs.declared.claim.ClaimKind.TheVariants.{Uniform, Matching}
-use Rattle.vk_effect.specs.Effects.{Effect, SaidValue, Stores, stores}
+use Rattle.vk_effect.specs.Effects.{SaidValue, Stores, stores}
 use Rattle.vk_effect.specs.Ends.{Acts}
 use Rattle.vk_effect.proofs.Acting.{if_some_map}
 use Rattle.vk_sample_parts.specs.Auctions.{DrySeed}
@@ -22,7 +22,7 @@ use Rattle.vk_sample_parts.proofs.Acting.{dry_acts, holding_done, reading_stoppe
 use Rattle.vk_claims.proofs.Opened.{opens}
 use Rattle.vk_claims.proofs.Sales.{numbers_are}
 use Rattle.vk_claims.specs.Claims.{IsMatchingOf, MayPublish, claim_case, proof_by, sizes_of}
-use Rattle.vk_claims.specs.ClaimSamples.{ActsFreely, ActsSo, OfSomeMatching, claim_sample_on, effect_by, effect_with}
+use Rattle.vk_claims.specs.ClaimSamples.{ActsFreely, ActsSo, claim_sample_on, effect_by, effect_with}
 use Rattle.vk_claims.specs.Texts.{claim_read, files_of, made_text, read_said, summary_said}
 
 module _ (kind : ClaimKind) (case : SampleCase) (is : IsCaseOf (sizes_of kind) case) (numbers : List ℕ) (published : MayPublish kind case numbers)
@@ -57,17 +57,6 @@ module _ (kind : ClaimKind) (case : SampleCase) (is : IsCaseOf (sizes_of kind) c
       (λ files. read_said text (claim_read files)) reads_back held left now said told same said_is
 
 -- ---- which effect it is
-
--- the same of each effect that was had of some matching
-pub some_matching_map : (files : Option Files) (ledger : Option Ledger) (number : ℕ)
-    (P Q : Effect → Type 0) → ((effect : Effect) → P effect → Q effect)
-    → OfSomeMatching files ledger number P → OfSomeMatching files ledger number Q
-some_matching_map files ledger number P Q follows (numbers, published, holds) = (
-  numbers,
-  published,
-  if_some_map P Q follows (effect_with Matching files ledger number numbers)
-      holds,
-)
 
 module _ (number : ℕ) (numbers : List ℕ) (old new : Stores) where
   freely : (answer : Result SaidValue OutsideErr)

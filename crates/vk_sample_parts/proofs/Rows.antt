@@ -1,53 +1,16 @@
 -- The seals of a sample, one after another.
-use Rattle.std.proofs.Common.{◌≡◌, ℕ, zero, suc, ◌+◌, ◌-◌, ◌<◌, nat_lt, true, if◌then◌else◌, List, [], ◌∷◌, ◌++◌, length, Option, Some, None, Result, Ok, Err, refl, sym, ap, subst, ◌∙◌, arith}
-use Rattle.std.proofs.lemmas.Bool.Decides.{nat_tests}
+use Rattle.std.proofs.Common.{◌≡◌, ℕ, zero, suc, ◌+◌, ◌-◌, ◌<◌, List, [], ◌∷◌, ◌++◌, length, Option, Some, None, Result, Ok, Err, refl, sym, ap, ◌∙◌, arith}
 use Rattle.vk_residue.specs.Steps.{◌>>=◌}
 use Rattle.vk_lines.specs.Gives.{Gives, Refuses}
-use Rattle.vk_seal.specs.declared.making.SealErr.{SealErr}
-use Rattle.vk_seal.specs.declared.making.SealErr.TheVariants.{BidTooLarge, DrySeed as DryLane, NoMemory}
-use Rattle.vk_seal.specs.declared.secret.Secret.{Secret}
-use Rattle.vk_seal.specs.declared.secret.Seal.{Seal}
-use Rattle.vk_seal.specs.Made.{IsExpected, seal_of, with_seal}
-use Rattle.vk_keeper.specs.declared.auction.Auction.{Auction}
 use Rattle.vk_keeper.specs.declared.auction.SealRow.{SealRow}
 use Rattle.vk_job.specs.Answers.{JobAnswer}
 use Rattle.vk_job.specs.JobValues.{JobValue}
-use Rattle.vk_job.specs.Jobs.{dry_in, seed_in}
-use Rattle.vk_job.specs.declared.errors.JobErr.{JobErr}
 use Rattle.vk_job.specs.declared.errors.JobErr.TheVariants as job
 use Rattle.vk_report.specs.declared.sample.SampleCase.{SampleCase}
 use Rattle.vk_sample_parts.specs.declared.errors.SampleErr.{SampleErr}
-use Rattle.vk_sample_parts.specs.Auctions.{DrySeed, OfBidder, auction_by, auction_with, dry_of, of_job, rows_onto, sealed, secret_at, unless_dry}
+use Rattle.vk_sample_parts.specs.Auctions.{DrySeed, auction_by, auction_with, dry_of, rows_onto, sealed, secret_at, unless_dry}
 
 -- ---- one seal
-
--- what making a seal answers of a bid that is small enough. That the bid is too large is never
--- answered
-abbrev pub SealAnswer : Result (Secret × Seal) SealErr → Result Secret ℕ → Type 0
-SealAnswer (Ok made) drawn = sealed drawn ≡ Ok (record { seal = made.1; secret = made.0 })
-SealAnswer (Err (DryLane lane)) drawn = sealed drawn ≡ Err (OfBidder lane)
-SealAnswer (Err BidTooLarge) drawn = ⊥
-SealAnswer (Err NoMemory) drawn = Unit {0}
-
-by_seal : (answer : Result (Secret × Seal) SealErr) (drawn : Result Secret ℕ)
-    → IsExpected answer (with_seal drawn) → SealAnswer answer drawn
-by_seal (Ok made) (Ok secret) is =
-    let same : ◌≡◌ {A = Secret × Seal} (secret, seal_of secret) made = cc in
-    ap (λ (m : Secret × Seal). Ok (record { seal = m.1; secret = m.0 })) same
-by_seal (Ok made) (Err lane) is = cc
-by_seal (Err (DryLane lane)) (Ok secret) is = cc
-by_seal (Err (DryLane lane)) (Err other) is = cc
-by_seal (Err BidTooLarge) (Ok secret) is = cc
-by_seal (Err BidTooLarge) (Err lane) is = cc
-by_seal (Err NoMemory) drawn is = tt
-
-pub seal_answer : (answer : Result (Secret × Seal) SealErr) (bid most : ℕ) (drawn : Result Secret ℕ)
-    → bid < most → IsExpected answer (if nat_lt bid most then with_seal drawn else Err BidTooLarge)
-    → SealAnswer answer drawn
-seal_answer answer bid most drawn small is =
-    let test : nat_lt bid most ≡ true = grind (arith, nat_tests) in
-    by_seal answer drawn (subst
-    (λ b. IsExpected answer (if b then with_seal drawn else Err BidTooLarge)) test is)
 
 -- ---- seal by seal
 
@@ -91,11 +54,6 @@ rows_done sample rows left whole none so_far = sym so_far ∙ ap (rows_onto samp
 
 -- ---- the job
 
-pub job_dry : (auction : Auction) (refused : JobErr) → JobAnswer (Err refused) auction
-    → Refuses (dry_of (of_job refused)) (unless_dry auction (dry_in auction (seed_in auction)))
-job_dry auction (job.DrySeed lane wire) is = ap (unless_dry auction) is
-job_dry auction job.NoMemory is = tt
-
 -- what refuses a step refuses what follows it
 pub bind_refuses : {A B : Type 0} (dry : Option DrySeed) (step : Result A DrySeed)
     (next : A → Result B DrySeed) → Refuses dry step → Refuses dry (step >>= next)
@@ -109,15 +67,6 @@ pub rows_refused : {T X : Type 0} (sample : SampleCase) (next : List SealRow →
     → Gives dry_of value answer (rows_onto sample [] (length sample.seats) >>= next)
 rows_refused sample next value answer refused is rows =
     rw is (bind_refuses (dry_of refused) (rows_onto sample [] (length sample.seats)) next rows)
-
-pub job_refuses : (sample : SampleCase) (rows : List SealRow) (refused : JobErr)
-    → rows_onto sample [] (length sample.seats) ≡ Ok rows
-    → JobAnswer (Err refused) (auction_with sample rows)
-    → Refuses (dry_of (of_job refused))
-    (rows_onto sample [] (length sample.seats) >>= auction_by sample)
-job_refuses sample rows refused made is =
-    subst (λ r. Refuses (dry_of (of_job refused)) (r >>= auction_by sample)) (sym made)
-    (job_dry (auction_with sample rows) refused is)
 
 pub job_made : (sample : SampleCase) (rows : List SealRow) (job : JobValue)
     → rows_onto sample [] (length sample.seats) ≡ Ok rows

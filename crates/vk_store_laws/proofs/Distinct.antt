@@ -12,7 +12,7 @@ use Rattle.sqlite_value.specs.Order.{Row, column, value_cmp}
 use Rattle.sqlite_value.proofs.KeyLemmas.{first_key-plain, class_tied}
 use Rattle.sqlite_trees.specs.Tree.{Trees, IsAscending, rowid}
 use Rattle.sqlite_trees.specs.View.{is_int}
-use Rattle.sqlite_sql.specs.Ops.{binary, is_null, is_true}
+use Rattle.sqlite_sql.specs.Ops.{binary, is_null}
 use Rattle.sqlite_schema.specs.Rules.{agree, equal, differ, clashes}
 use Rattle.sqlite_schema.specs.declared.schema.Constraint.TheVariants.{NotNull, Unique}
 use Rattle.sqlite_rules.specs.Lists.{Has}
@@ -27,11 +27,6 @@ use Rattle.vk_store_laws.proofs.Under.{equal_is}
 not_false : (b : Bool) → not b ≡ true → b ≡ false
 not_false true h = absurd (let e = h in cc)
 not_false false h = refl
-
-no_null : (v w : Value) (b : Bool) → is_null v ≡ false → is_null w ≡ false
-    → is_true (Rattle.sqlite_sql.specs.Ops.from_truth (Rattle.std.specs.Prelude.Some b)) ≡ b
-no_null v w true p q = refl
-no_null v w false p q = refl
 
 -- values that tie are equal, where neither is NULL
 pub equal_tied : (k : Key) (v w : Value) → k ≡ ascending Binary → is_null v ≡ false
