@@ -1,8 +1,9 @@
 -- Steps inside a transaction, one behind another.
-use Rattle.std.proofs.Common.{◌≡◌, ℕ, ◌+◌, ◌<◌, List, [], ◌∷◌, ◌++◌, length, take, drop, get_or, inl, inr, refl, sym, ap, subst, ◌∙◌, IsTrue, Result, Ok, Err}
+use Rattle.std.proofs.Common.{◌≡◌, ℕ, ◌+◌, ◌<◌, List, [], ◌∷◌, ◌++◌, length, take, drop, get_or, inl, inr, refl, sym, ap, subst, ◌∙◌, Result, Ok, Err}
 use Rattle.std.specs.Prelude.{IfErr, IfOk}
 use Rattle.std.proofs.lemmas.List.{drop_more, take-append-drop}
 use Rattle.sqlite.specs.Store.{Ghosts}
+use Rattle.sqlite.specs.Order.{Row}
 use Rattle.sqlite.specs.Held.{Held, state}
 use Rattle.sqlite.specs.State.{HasCleanDisk}
 use Rattle.sqlite.proofs.InsideLemmas.{keeps_then}
@@ -140,6 +141,25 @@ module _ {S : Type 0} (g : Ghosts S) where
       subst (λ h. StopsAmong g (step ∷ rest) h new told) all stops
   one_stops (next ∷ front) step rest old mid new told all stops =
       inr (all.0, all.1, one_stops front step rest all.0 mid new told all.2 stops)
+
+-- the first of them, and those behind it
+pub run_first : {S : Type 0} {g : Ghosts S} {statement : List ℕ} {columns : Row}
+    {old mid new : Held S} {result : Result Unit OutsideErr} (rest : List Step)
+    → RunsInside g statement columns old mid (Ok tt) → RunsAllInside g rest mid new result
+    → RunsAllInside g ((statement, columns) ∷ rest) old new result
+run_first {g} {statement} {columns} {mid} rest first next =
+    behind (WhereBegun g (StopsAmong g ((statement, columns) ∷ rest))) first next
+    (λ was e stops. record {
+      stops = λ inside.
+          inr (mid, first.done was, stops.stops (first.stays was inside).inside);
+    })
+
+-- the first of them was refused
+pub first_refused : {S : Type 0} {g : Ghosts S} {statement : List ℕ} {columns : Row}
+    {old new : Held S} {told : OutsideErr} {result : Result Unit OutsideErr} (rest : List Step)
+    → RunsInside g statement columns old new (Err told) → result ≡ Err told
+    → RunsAllInside g ((statement, columns) ∷ rest) old new result
+first_refused {told} rest first refused = stopped_as told first inl refused
 
 -- what stands before a place, at it and behind it is the whole
 with_front : {X : Type 0} (xs : List X) (i : ℕ) (x : X) → i < length xs → x ≡ get_or xs i x
