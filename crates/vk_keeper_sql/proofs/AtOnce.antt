@@ -97,83 +97,73 @@ commit_done mid new shows = record {
   same = shows.now_is ∙ sym shows.committed_is;
 }
 
+-- what a crash leaves of a transaction that ended in a commit of what was made in it
+made_at_once : {S : Type 0} (g : Ghosts S) (old mid last : Held S) (Makes : Database → Type 0)
+    → CommitsNothing (state g (record old { in_transaction = true })) (state g mid)
+    → (HasCleanDisk (state g mid) → Makes (state g mid).now)
+    → Survives (state g mid) (state g last) (λ db. db ≡ (state g mid).now.trees)
+    → Survives (state g old) (state g last)
+    (λ db. (db ≡ (state g mid).now.trees) × Makes (state g mid).now)
+made_at_once g old mid last Makes inside made end =
+    survives_then (state g old) (state g mid) (state g last) _ _
+    (λ db. (db ≡ (state g mid).now.trees) × Makes (state g mid).now) (λ _ db no. absurd no)
+    (λ clean db is. (is, made (was_clean _ _ end clean)))
+    (survives_begin g old (state g mid) _ inside) end
+
 -- a transaction that was begun, in which one step was taken, and that has ended
-module _ {S : Type 0} (g : Ghosts S) (old begun mid last new : Held S) (is : begun ≡ record old { in_transaction = true }) (same : last ≡ new) where
+module _ {S T E F : Type 0} (g : Ghosts S) (old begun mid last new : Held S) (is : begun ≡ record old { in_transaction = true }) (same : last ≡ new) (Makes : Database → Type 0) {Does : T → Held S → Held S → Type 0} {Stops : Held S → Held S → E → Type 0} where
   -- the step was refused, and the transaction rolled back
-  pub undone_at_once : {T E F : Type 0} {Does : T → Held S → Held S → Type 0}
-      {Stops : Held S → Held S → E → Type 0} {told : E} (Makes : Database → Type 0)
-      (result : Result Unit F) → IsErr result
+  pub undone_at_once : {told : E} (result : Result Unit F) → IsErr result
       → WorksInside g Does (WhereBegun g Stops) begun mid (Err told)
       → CommitsNothing (state g mid) (state g last)
       → (HasCleanDisk (state g last) → IsRolledBack (state g mid) (state g last))
       → CommitsAtOnce Makes (state g old) (state g new) result
       × (HasCleanDisk (state g new) → Stops (record old { in_transaction = true }) mid told
       × IsRolledBack (state g mid) (state g new))
-  undone_at_once {Does} {Stops} {told} Makes result refused step end undone =
-      let within = subst (λ h. WorksInside g Does (WhereBegun g Stops) h mid (Err told)) is step in
-      let begun = survives_begin g old (state g mid) _ within.crash in
-      subst (λ h. CommitsAtOnce Makes (state g old) (state g h) result
-      × (HasCleanDisk (state g h) → Stops (record old { in_transaction = true }) mid told
-      × IsRolledBack (state g mid) (state g h))) same (
+  undone_at_once result refused step end undone = rw (← same) (
+      let within = rw is at step in
+      let begun = survives_begin g old (state g mid) _ within.crash in (
         nothing_at_once Makes (state g old) (state g last) result refused
             (survives_then (state g old) (state g mid) (state g last) _ _ _ (λ _ db no. no)
             (λ _ db no. no) begun end) (λ clean. rolled_back g old (state g mid) (state g last)
             (within.stays (was_clean _ _ end clean) refl).kept (undone clean)),
         λ clean. ((within.refused (was_clean _ _ end clean)).stops refl, undone clean),
       )
-
-  -- what a crash leaves of one that ended in a commit of what the step made
-  made_at_once : (Makes : Database → Type 0)
-      → CommitsNothing (state g (record old { in_transaction = true })) (state g mid)
-      → (HasCleanDisk (state g mid) → Makes (state g mid).now)
-      → Survives (state g mid) (state g last) (λ db. db ≡ (state g mid).now.trees)
-      → Survives (state g old) (state g last)
-      (λ db. (db ≡ (state g mid).now.trees) × Makes (state g mid).now)
-  made_at_once Makes inside made end =
-      survives_then (state g old) (state g mid) (state g last) _ _
-      (λ db. (db ≡ (state g mid).now.trees) × Makes (state g mid).now) (λ _ db no. absurd no)
-      (λ clean db is. (is, made (was_clean _ _ end clean)))
-      (survives_begin g old (state g mid) _ inside) end
+      )
 
   -- the step was taken, and the transaction committed
-  pub done_at_once : {T E F : Type 0} {Does : T → Held S → Held S → Type 0}
-      {Stops : Held S → Held S → E → Type 0} {value : T} (Makes : Database → Type 0)
-      → WorksInside g Does Stops begun mid (Ok value)
+  pub done_at_once : {value : T} → WorksInside g Does Stops begun mid (Ok value)
       → (Does value (record old { in_transaction = true }) mid → Makes (state g mid).now)
       → Survives (state g mid) (state g last) (λ db. db ≡ (state g mid).now.trees)
       → (HasCleanDisk (state g last)
       → Shows (state g mid) (state g last) (state g mid).now (state g mid).now false)
       → CommitsAtOnce {E = F} Makes (state g old) (state g new) (Ok tt)
-  done_at_once {F} {Does} {Stops} {value} Makes step so end shown =
-      let within = subst (λ h. WorksInside g Does Stops h mid (Ok value)) is step in
-      let made : HasCleanDisk (state g mid) → Makes (state g mid).now = λ clean.
-      so (within.done clean) in
-      subst (λ h. CommitsAtOnce {E = F} Makes (state g old) (state g h) (Ok tt)) same (record {
+  done_at_once step so end shown = rw (← same) (
+      let within = rw is at step in
+      record {
         whole = (state g mid).now;
-        crash = made_at_once Makes within.crash made end;
-        done = λ clean. ((shown clean).committed_is, made (was_clean _ _ end clean));
+        crash = made_at_once g old mid last Makes within.crash (λ clean. so (within.done clean)) end;
+        done = λ clean.
+            ((shown clean).committed_is, so (within.done (was_clean _ _ end clean)));
         seen = λ clean. commit_done (state g mid) (state g last) (shown clean);
         refused = λ clean. tt;
-      })
+      }
+      )
 
   -- the step was taken, and the commit refused
-  pub failed_at_once : {T E F : Type 0} {Does : T → Held S → Held S → Type 0}
-      {Stops : Held S → Held S → E → Type 0} {value : T} {error : Error}
-      (Makes : Database → Type 0) (told : F) → WorksInside g Does Stops begun mid (Ok value)
+  pub failed_at_once : {value : T} {error : Error} (told : F)
+      → WorksInside g Does Stops begun mid (Ok value)
       → (Does value (record old { in_transaction = true }) mid → Makes (state g mid).now)
       → Survives (state g mid) (state g last) (λ db. db ≡ (state g mid).now.trees)
       → (HasCleanDisk (state g last) → FailsToCommit (state g mid) (state g last) error)
       → CommitsAtOnce Makes (state g old) (state g new) (Err told)
       × (HasCleanDisk (state g new) → Does value (record old { in_transaction = true }) mid
       × FailsToCommit (state g mid) (state g new) error)
-  failed_at_once {Does} {Stops} {value} {error} Makes told step so end failed =
-      let within = subst (λ h. WorksInside g Does Stops h mid (Ok value)) is step in
-      subst (λ h. CommitsAtOnce Makes (state g old) (state g h) (Err told)
-      × (HasCleanDisk (state g h) → Does value (record old { in_transaction = true }) mid
-      × FailsToCommit (state g mid) (state g h) error)) same (
+  failed_at_once {error} told step so end failed = rw (← same) (
+      let within = rw is at step in (
         record {
           whole = (state g mid).now;
-          crash = made_at_once Makes within.crash (λ clean. so (within.done clean)) end;
+          crash = made_at_once g old mid last Makes within.crash (λ clean. so (within.done clean)) end;
           done = λ clean. tt;
           seen = λ clean. tt;
           refused = λ clean.
@@ -182,4 +172,5 @@ module _ {S : Type 0} (g : Ghosts S) (old begun mid last new : Held S) (is : beg
               (failed clean);
         },
         λ clean. (within.done (was_clean _ _ end clean), failed clean),
+      )
       )

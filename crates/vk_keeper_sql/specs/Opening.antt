@@ -19,7 +19,12 @@ use Rattle.vk_keeper_sql.specs.Versions.{number_of}
 abbrev pub first_terms : Value → Row
 first_terms id = bound_value id ∷ Int (pos 1) ∷ Int (pos 0) ∷ []
 
--- the statements that put the terms for each of these ids
+-- the statements that make the tables of a new store, and number them 2
+abbrev pub making : List Step
+making = (make_about, []) ∷ (make_auctions, []) ∷ (make_seals, []) ∷ (make_terms, [])
+    ∷ (first_number, Int (pos 2) ∷ []) ∷ []
+
+-- those that put the terms for each of these ids
 abbrev pub filling : List Row → List Step
 filling = map (λ row. (keep_terms, first_terms (column row 0)))
 
@@ -31,16 +36,8 @@ module _ {S : Type 0} (g : Ghosts S) where
     pub shown : number_of rows ≡ Ok number
 
   -- the tables were made, and numbered 2
-  pub record MakesTables (old new : Held S) : Type 0 where
-    pub one : Held S
-    pub two : Held S
-    pub three : Held S
-    pub four : Held S
-    pub about : Ran g make_about [] old one
-    pub auctions : Ran g make_auctions [] one two
-    pub seals : Ran g make_seals [] two three
-    pub terms : Ran g make_terms [] three four
-    pub number : Ran g first_number (Int (pos 2) ∷ []) four new
+  abbrev pub MakesTables : Held S → Held S → Type 0
+  MakesTables = RunsAll g making
 
   -- terms were put for each of these ids
   abbrev pub AddsTerms : List Row → Held S → Held S → Type 0

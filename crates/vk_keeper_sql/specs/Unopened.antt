@@ -15,17 +15,12 @@ use Rattle.vk_keeper_sql.specs.declared.errors.OpenErr.TheVariants.{Refused}
 use Rattle.vk_keeper_sql.specs.declared.layout.Layout.{Layout}
 use Rattle.vk_keeper_sql.specs.declared.layout.Layout.TheVariants.{Blank, First, Second, Other}
 use Rattle.vk_keeper_sql.specs.Layouts.{HasLayout}
-use Rattle.vk_keeper_sql.specs.Opening.{AddsTerms, IsNumbered, PreparesFrom, filling}
+use Rattle.vk_keeper_sql.specs.Opening.{AddsTerms, IsNumbered, PreparesFrom, filling, making}
 use Rattle.vk_keeper_sql.specs.Refusals.{open_refusal}
 use Rattle.vk_rows.specs.Refusals.{statement_refusal}
-use Rattle.vk_keeper_sql.specs.Statements.{make_about, make_auctions, make_seals, make_terms, first_number, next_number, number_query, ids_query}
-use Rattle.vk_keeper_sql.specs.Transactions.{Answers, Ran, RefusesQuery, RefusesRun, Step, StopsAmong}
+use Rattle.vk_keeper_sql.specs.Statements.{make_terms, next_number, number_query, ids_query}
+use Rattle.vk_keeper_sql.specs.Transactions.{Answers, Ran, RefusesQuery, RefusesRun, StopsAmong}
 use Rattle.vk_keeper_sql.specs.Versions.{number_of}
-
--- the statements that make the tables of a new store
-abbrev pub making : List Step
-making = (make_about, []) ∷ (make_auctions, []) ∷ (make_seals, []) ∷ (make_terms, [])
-    ∷ (first_number, Int (pos 2) ∷ []) ∷ []
 
 module _ {S : Type 0} (g : Ghosts S) where
   -- tables of the number 1 weren't lifted: a statement was refused, or the query for the ids

@@ -5,9 +5,9 @@ ghost use Rattle.sqlite.specs.Held.{state};
 ghost use Rattle.sqlite.specs.State.{HasCleanDisk};
 ghost use Rattle.sqlite.specs.Order.{column};
 ghost use Rattle.vk_keeper_sql.specs.Layouts.{HasLayout};
-ghost use Rattle.vk_keeper_sql.specs.Opening.{IsNumbered, MakesTables, Prepares, PreparesFrom};
-ghost use Rattle.vk_keeper_sql.specs.Transactions.{CommitsAtOnce, StopsAmong, WorksInside, WritesInside};
-ghost use Rattle.vk_keeper_sql.specs.Unopened.{IsRefusedFor, StopsCheck, StopsFrom, StopsNumber, making};
+ghost use Rattle.vk_keeper_sql.specs.Opening.{IsNumbered, Prepares, PreparesFrom, making};
+ghost use Rattle.vk_keeper_sql.specs.Transactions.{CommitsAtOnce, RunsAllInside, WorksInside, WritesInside};
+ghost use Rattle.vk_keeper_sql.specs.Unopened.{IsRefusedFor, StopsCheck, StopsFrom, StopsNumber};
 ghost use Rattle.vk_keeper_sql.specs.Versions.{int_of, number_by, number_of, version_of};
 
 use crate::errors::OpenErr;
@@ -173,7 +173,7 @@ fn version_of(rows: u64, number: i64) -> Result<u32, OpenErr>
 /// Makes the four tables, and says their version.
 fn make_tables<S: Alter>(transaction: &mut Transaction<'_, S>) -> Result<(), OutsideErr>
     ensures same_reference { transaction.new.conn.ghost_name ≡ transaction.old.conn.ghost_name }
-    ensures works { WritesInside S.Store (MakesTables S.Store) (StopsAmong S.Store making)
+    ensures works { RunsAllInside S.Store making
         transaction.old.conn.now transaction.new.conn.now result }
 {
     run(transaction, MAKE_ABOUT, &[])?;

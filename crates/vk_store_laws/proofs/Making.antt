@@ -114,19 +114,20 @@ module _ {S : Type 0} (g : Ghosts S) where
       → IsStore (state g new).now × ((state g new).now.trees 1 ≡ [])
       × ((state g new).now.trees 3 ≡ []) × ((state g new).now.trees 6 ≡ [])
   unfolding Ran
-  made_is_store old new has it =
-      let one = makes old it.one no_schema make_about about has texts_are.0 it.about in
-      let two = makes it.one it.two one_schema make_auctions auctions one.0 texts_are.1 it.auctions
-      in
-      let three = makes it.two it.three two_schema make_seals seals two.0 texts_are.2 it.seals in
-      let four = makes it.three it.four three_schema make_terms terms three.0 texts_are.3 it.terms in
+  made_is_store old new has
+      (made, about_ran, (later, auctions_ran, (third, seals_ran, (fourth, terms_ran, end)))) =
+      let one = makes old made no_schema make_about about has texts_are.0 about_ran in
+      let two = makes made later one_schema make_auctions auctions one.0 texts_are.1 auctions_ran in
+      let three = makes later third two_schema make_seals seals two.0 texts_are.2 seals_ran in
+      let four = makes third fourth three_schema make_terms terms three.0 texts_are.3 terms_ran in
       let whole = four.0 ∙ all_made in
       let params = Int (pos 2) ∷ [] in
-      let w = runs_as first_number params (state g it.four) (state g new) store_schema whole _
-      number_is number_plain it.number.0 it.number.1.0 in
+      let number = subst (λ h. Ran g first_number params fourth h) (sym end.2) end.1 in
+      let w = runs_as first_number params (state g fourth) (state g new) store_schema whole _
+      number_is number_plain number.0 number.1.0 in
       let text = statement_of first_number (understood store_schema first_number) in
-      let done = inserts store_schema 0 about refl (λ keys db edit. refl) (state g it.four)
-      (state g new) whole text params it.number.0
+      let done = inserts store_schema 0 about refl (λ keys db edit. refl) (state g fourth)
+      (state g new) whole text params number.0
       (lit Null ∷ col 0 0 ∷ []) 2 refl refl refl (rw (cast_null, cast_int (pos 2)) refl) w in
       let heads : (state g new).now.trees 1 ≡ [] = done.0.tables.1.0 apart_10
       ∙ (four.2.1.0 ∙ (three.2.1.0 ∙ two.1)) in

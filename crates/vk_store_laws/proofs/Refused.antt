@@ -24,9 +24,9 @@ use Rattle.vk_keeper_sql.specs.declared.layout.Layout.TheVariants.{Blank, First,
 use Rattle.vk_keeper_sql.specs.Layouts.{HasLayout, HasShape, IsFirst, IsSecond, about_shape, auction_shape, seal_shape, terms_shape}
 use Rattle.vk_keeper_sql.specs.Refusals.{open_refusal}
 use Rattle.vk_keeper_sql.specs.Statements.{number_query}
-use Rattle.vk_keeper_sql.specs.Opening.{filling}
+use Rattle.vk_keeper_sql.specs.Opening.{filling, making}
 use Rattle.vk_keeper_sql.specs.Transactions.{Answers, Step, StopsAmong}
-use Rattle.vk_keeper_sql.specs.Unopened.{IsRefusedFor, StopsCheck, StopsFrom, StopsLifting, making, in_transaction, not_prepared, not_committed, not_made, not_first, not_second, not_lifted, not_read, not_its_own, query_refused, other_number, make_refused, ids_refused, terms_refused, number_refused}
+use Rattle.vk_keeper_sql.specs.Unopened.{IsRefusedFor, StopsCheck, StopsFrom, StopsLifting, in_transaction, not_prepared, not_committed, not_made, not_first, not_second, not_lifted, not_read, not_its_own, query_refused, other_number, make_refused, ids_refused, terms_refused, number_refused}
 use Rattle.vk_keeper_sql.specs.Versions.{number_of}
 use Rattle.vk_store_laws.specs.Tables.{about, auctions, seals, terms, placed, no_schema, first_store_schema, store_schema}
 use Rattle.vk_store_laws.specs.Former.{IsFirstStore}
