@@ -129,6 +129,14 @@ pub record ActsOnFiles {S : Type 0} (held : S → Option Files) (count : S → �
       (λ whole. Acts result whole (stores (held old) ledger) (stores (held new) ledger))
   pub causes : Causes Failed result (count old) (count new)
 
+-- a command that reads replies, and so may find a clash between them
+abbrev pub ReadsReplies : CommandWords → Type 0
+ReadsReplies (Seal order) = ⊥
+ReadsReplies (House order) = ⊥
+ReadsReplies (Ceremony script) = ⊥
+ReadsReplies (Coin order) = ⊥
+ReadsReplies command = Unit {0}
+
 -- a command that asks no keeper leaves it alone
 abbrev pub LeavesKeeper : {K : Type 0} → (K → Option Ledger) → (count : K → ℕ)
     → Option CommandWords → (old new : K) → Type 0

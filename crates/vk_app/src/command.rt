@@ -1,8 +1,9 @@
 //! The top call.
 
-ghost use Rattle.std.specs.Prelude.{◌≡◌, ◌≢◌, ◌⊎◌, ℕ, None, IfSome, IfOk, Some, map, option_map, string_bytes};
+ghost use Rattle.std.specs.Prelude.{◌≡◌, ◌≢◌, ◌⊎◌, ℕ, None, IfSome, IfOk, IsErrOf, Some, map, option_map, string_bytes};
 ghost use Rattle.vk_io.specs.Faults.{Rose};
 ghost use Rattle.vk_io.specs.Files.{Modelled};
+ghost use Rattle.vk_judge.specs.Wanting.{MemoryWasWanting};
 ghost use Rattle.vk_keeper.specs.Ledgers.{Ledger};
 ghost use Rattle.vk_words.specs.Commands.{ClaimSample, Coin, IsCommand, Seal, command_seen, command_words};
 ghost use Rattle.vk_words.specs.declared.claim.ClaimKind.TheVariants.{Matching};
@@ -15,7 +16,7 @@ ghost use Rattle.vk_effect.specs.Counts.{CausesThree, CausesTwo};
 ghost use Rattle.vk_audit.specs.Audits.{audit_seen};
 ghost use Rattle.vk_claims.specs.Orders.{claim_order_seen};
 ghost use Rattle.vk_coins.specs.Meaning.{MakesChallenge};
-ghost use Rattle.vk_app.specs.Commands.{ActsOnFiles, CommandActsFreely, CommandEndsFreely, EndsWork, LeavesKeeper, RunIsDone, RunIsStopped, audit_on, claim_on, command_effect, script_in, work_of, work_on};
+ghost use Rattle.vk_app.specs.Commands.{ActsOnFiles, CommandActsFreely, CommandEndsFreely, EndsWork, LeavesKeeper, ReadsReplies, RunIsDone, RunIsStopped, audit_on, claim_on, command_effect, script_in, work_of, work_on};
 ghost use Rattle.vk_app.specs.Promises.{Audits, ClaimExtractIsComplete, ClaimExtractIsSound, ClaimHeadline, Claims, CommandLeft, ExtractIsComplete, ExtractIsSound, Headline, HoldsCeremony, KeepsHouse, OverFiles, RunLeaves, RunStops, SamplesMatching, TellsUsage, WorkLeft};
 ghost use Rattle.vk_app.specs.Sealing.{Seals};
 
@@ -35,7 +36,8 @@ use vk_words::{Command, command_of};
 
 /// Does an auditor's command, but for printing.
 fn read<S: Shelf>(alloc: Global, shelf: &mut S, order: &AuditOrder<'_>) -> Result<Said, OutsideErr>
-    ensures { ActsOnFiles S.held S.Shelf.faults
+    ensures wanting { IsErrOf result OutsideErr.NoMemory → MemoryWasWanting }
+    ensures acts { ActsOnFiles S.held S.Shelf.faults
         (λ files ledger. audit_on files ledger (audit_seen order.now)) result shelf.old shelf.new }
 {
     let said = audit(alloc, shelf, order);
@@ -48,7 +50,8 @@ fn read_claim<S: Shelf>(
     shelf: &mut S,
     order: &ClaimOrder<'_>,
 ) -> Result<Said, OutsideErr>
-    ensures { ActsOnFiles S.held S.Shelf.faults
+    ensures wanting { IsErrOf result OutsideErr.NoMemory → MemoryWasWanting }
+    ensures acts { ActsOnFiles S.held S.Shelf.faults
         (λ files ledger. claim_on files ledger (claim_order_seen order.now)) result shelf.old
         shelf.new }
 {
@@ -75,6 +78,8 @@ fn act<S: Shelf, K: Keeper + Drop>(
         (stores (S.held shelf.new) (K.ledger keeper.new)) }
     ensures files { CommandLeft (Some (command_seen command.entry)) result (S.held shelf.old)
         (S.held shelf.new) }
+    ensures wanting { ReadsReplies (command_seen command.entry)
+        → IsErrOf result OutsideErr.NoMemory → MemoryWasWanting }
     ensures once { Modelled KeepsAnswers (K.ledger keeper.old) (K.ledger keeper.new) }
     ensures keeper { LeavesKeeper K.ledger K.Keeper.faults (Some (command_seen command.entry)) keeper.old
         keeper.new }
