@@ -50,7 +50,7 @@ fn claim_case(alloc: Global, kind: ClaimKind, number: u64) -> Result<SampleCase,
     Ok(case)
 }
 
-/// The same, by both of its clauses as one.
+/// What `claim_sample` does, by both of its clauses as one.
 #[tactic(auto, using(crate::proofs::Acting::stopped_so))]
 fn make_and_hold<S: Shelf>(
     alloc: Global,

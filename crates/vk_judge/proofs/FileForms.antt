@@ -16,7 +16,7 @@ use Rattle.vk_judge.specs.Begun.{from_start}
 use Rattle.vk_judge.specs.Two.{Ahead, BothAreAccepted, accepted_of, ahead_behind, same_bits, two_result}
 use Rattle.vk_judge.specs.TwoLaw.{bits_in}
 use Rattle.vk_judge.specs.Opened.{Coming, Front, as_found, coming_in, coming_past, in_file, judged_in, judged_past, with_head}
-use Rattle.vk_judge.specs.FileForms.{Accepts, AcceptedGive, AreOfOneFile, Fails, FailsBehind, FindsByBoth, Form, GivesValues, IsForm, JudgedHolds, OnlyAcceptedGive, OpenedFront, ReadFront, base_of_file, opened_of, two_told}
+use Rattle.vk_judge.specs.FileForms.{Accepts, AcceptedGive, AreOfOneFile, Fails, FailsBehind, FindsByBoth, Form, GivesValues, IsForm, JudgedExactly, JudgedHolds, OnlyAcceptedGive, OpenedFront, ReadFront, base_of_file, opened_of, two_told}
 use Rattle.vk_judge.proofs.Accepted.{accepted_behind}
 use Rattle.vk_judge.proofs.Reasons.{fault_holds}
 use Rattle.vk_judge.proofs.Exact.{fault_given}
@@ -195,6 +195,9 @@ module _ {F H R : Type 0} (form : Form F H R) (is : IsForm form) (file challenge
 
   pub judged_exact : (j : Result (Unit {0}) (Refusal R)) → (judged ≡ j) ↔ Holds j
   judged_exact j = (λ same. subst Holds same judged_holds, given j)
+
+pub judged_exactly : {F H R : Type 0} (form : Form F H R) → IsForm form → JudgedExactly form
+judged_exactly form is j file challenge reply = judged_exact form is file challenge reply j
 
 -- ---- two replies
 

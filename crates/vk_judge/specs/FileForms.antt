@@ -76,6 +76,12 @@ JudgedHolds form (Err (refusal.Front reason)) file challenge reply = form.Refuse
 JudgedHolds form (Err (refusal.Fault fault)) file challenge reply =
     Fails form file challenge reply fault
 
+-- each is what judging comes to exactly where it holds
+abbrev pub JudgedExactly : {F H R : Type 0} → Form F H R → Type 0
+JudgedExactly {F} {H} {R} form = (judged : Result Unit (Refusal R)) (file challenge reply : List ℕ)
+    → (judged_in form.front_at file challenge reply ≡ judged)
+    ↔ JudgedHolds form judged file challenge reply
+
 -- ---- the front is exact
 
 -- this front is read of the file
