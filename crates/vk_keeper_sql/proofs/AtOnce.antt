@@ -1,5 +1,5 @@
 -- What a transaction is as a whole, by what happened in it and how it ended.
-use Rattle.std.proofs.Common.{◌≡◌, ◌∙◌, refl, sym, inl, inr, arith, subst, true, false, Result, Ok, Err, IsErr, IsTrue, OnOk}
+use Rattle.std.proofs.Common.{◌≡◌, ◌∙◌, refl, sym, inl, inr, arith, true, false, Result, Ok, Err, IsErr, IsTrue, OnOk}
 use Rattle.std.specs.Prelude.{OnErr}
 use Rattle.sqlite.specs.Store.{Ghosts}
 use Rattle.sqlite.specs.Tree.{Trees}

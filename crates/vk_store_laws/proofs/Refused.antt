@@ -15,13 +15,14 @@ use Rattle.sqlite.specs.Held.{Held, state}
 use Rattle.sqlite.specs.State.{State, Shown}
 use Rattle.sqlite.specs.Listing.{understood, reads_listing}
 use Rattle.sqlite_schema.specs.declared.schema.Schema.{Schema}
+use Rattle.sqlite_schema.specs.declared.schema.Table.{Table}
 use Rattle.sqlite_tied.specs.Compute.{everything}
 use Rattle.sqlite.proofs.Callers.{IsPlain, command_of, one_permutation, reads_as}
 use Rattle.vk_io.specs.declared.errors.OutsideErr.{OutsideErr}
 use Rattle.vk_keeper_sql.specs.declared.errors.OpenErr.{OpenErr}
 use Rattle.vk_keeper_sql.specs.declared.layout.Layout.{Layout}
 use Rattle.vk_keeper_sql.specs.declared.layout.Layout.TheVariants.{Blank, First, Second, Other}
-use Rattle.vk_keeper_sql.specs.Layouts.{HasLayout, HasShape, IsFirst, IsSecond, about_shape, auction_shape, seal_shape, terms_shape}
+use Rattle.vk_keeper_sql.specs.Layouts.{AreFirst, HasLayout, HasShape, IsFirst, IsSecond, about_shape, auction_shape, seal_shape, terms_shape}
 use Rattle.vk_keeper_sql.specs.Refusals.{open_refusal}
 use Rattle.vk_keeper_sql.specs.Statements.{number_query}
 use Rattle.vk_keeper_sql.specs.Opening.{filling, making}
@@ -117,25 +118,19 @@ terms_are = record {
   keys = refl;
 }
 
-first_is : IsFirst first_store_schema
-first_is = record {
-  first = record {
-    about = (about, (0, omega arith, refl), about_is);
-    auction = (placed auctions 1, (1, omega arith, refl), auctions_are);
-    seal = (placed seals 3, (2, omega arith, refl), seals_are);
-  };
-  tables = refl;
-  indexes = refl;
-  views = refl;
+are_first : (more : List Table) → AreFirst (about ∷ placed auctions 1 ∷ placed seals 3 ∷ more)
+are_first more = record {
+  about = (about, (0, omega arith, refl), about_is);
+  auction = (placed auctions 1, (1, omega arith, refl), auctions_are);
+  seal = (placed seals 3, (2, omega arith, refl), seals_are);
 }
+
+first_is : IsFirst first_store_schema
+first_is = record { first = are_first []; tables = refl; indexes = refl; views = refl }
 
 second_is : IsSecond store_schema
 second_is = record {
-  first = record {
-    about = (about, (0, omega arith, refl), about_is);
-    auction = (placed auctions 1, (1, omega arith, refl), auctions_are);
-    seal = (placed seals 3, (2, omega arith, refl), seals_are);
-  };
+  first = are_first (placed terms 6 ∷ []);
   terms = (placed terms 6, (3, omega arith, refl), terms_are);
   tables = refl;
   indexes = refl;

@@ -1,7 +1,7 @@
-use Rattle.std.proofs.Common.{◌≡◌, ◌+◌, ◌∙◌, ap, arith, drop, rules, sym}
+use Rattle.std.proofs.Common.{◌≡◌, ◌+◌, ◌∙◌, arith, drop, rules}
 use Rattle.std.proofs.lemmas.List.{drop_all}
 use Rattle.vk_keeper_sql.specs.Writing.{adding}
-use Rattle.vk_keeper_sql.proofs.Steps.{LeavesRest, first_refused, none_run, rest_at, run_first}
+use Rattle.vk_keeper_sql.proofs.Steps.{first_refused, none_run, rest_at, run_first}
 use Rattle.vk_keeper_sql.proofs.seals.add_seals.Goals as goal
 
 pub loop-i-init : goal.loop-i-init
