@@ -2,7 +2,7 @@
 use crate::text::Text;
 use std::alloc::Global;
 use vk_app::dry_seed;
-use vk_audit::judged;
+use vk_audit::say_verdict;
 use vk_cases::Tried;
 use vk_effect::{Said, bidder_dry_line, house_dry_line};
 use vk_io::Sink;
@@ -48,7 +48,7 @@ pub fn try_sayings<W: Sink>(alloc: Global, out: &mut W) -> Tried<()> {
     out.put(house_dry_line(1, 20).as_bytes())?;
     tell(alloc, out, &dry_seed(64))?;
     for verdict in &REFUSALS {
-        let said = judged(alloc, &NAMES, true, *verdict)?;
+        let said = say_verdict(alloc, &NAMES, true, *verdict)?;
         tell(alloc, out, &said)?;
     }
     Ok(())

@@ -17,7 +17,7 @@ use vk_text::ShortText;
 use vk_words::SealOrder;
 
 /// What a seal that was made says. Takes no memory.
-fn sealed(order: &SealOrder<'_>) -> Said
+fn say_sealed(order: &SealOrder<'_>) -> Said
     ensures { result ≡ record { status = 0; text = sealed_line order.now.seat order.now.lanes } }
 {
     let line = ShortText::new()
@@ -44,7 +44,7 @@ pub fn dry_seed(lane: u32) -> Said
 }
 
 /// A seal that was made is said, and its files are written: the secret's, then its own.
-fn made(
+fn write_seal(
     alloc: Global,
     order: &SealOrder<'_>,
     secret: &Secret,
@@ -55,7 +55,7 @@ fn made(
 {
     let secret = secret_text(alloc, secret)?;
     let seal = seal_text(alloc, seal)?;
-    let deed = Deed::says(alloc, sealed(order)).with_file(alloc, order.secret, secret)?;
+    let deed = Deed::says(alloc, say_sealed(order)).with_file(alloc, order.secret, secret)?;
     let deed = deed.with_file(alloc, order.seal, seal)?;
     Ok(deed)
 }
@@ -78,13 +78,13 @@ fn make(alloc: Global, order: &SealOrder<'_>) -> Result<Deed, NoMemory>
         order.lanes,
         &mut words,
     );
-    let deed = told(alloc, order, sealed);
+    let deed = seal_deed(alloc, order, sealed);
     deed
 }
 
 /// What comes of a seal that was made, or of why none was. Only a seal that was made takes memory:
 /// a refusal is told as it is.
-fn told(
+fn seal_deed(
     alloc: Global,
     order: &SealOrder<'_>,
     sealed: Result<(Secret, Seal), SealErr>,
@@ -94,7 +94,7 @@ fn told(
     ensures memory { sealed ≡ Err SealErr.NoMemory → IsErr result }
 {
     match sealed {
-        Ok((secret, seal)) => made(alloc, order, &secret, &seal),
+        Ok((secret, seal)) => write_seal(alloc, order, &secret, &seal),
         Err(SealErr::BidTooLarge) => Ok(Deed::says(alloc, bid_too_large())),
         Err(SealErr::DrySeed { lane }) => Ok(Deed::says(alloc, dry_seed(lane))),
         Err(SealErr::NoMemory) => Err(NoMemory),
@@ -113,6 +113,6 @@ pub fn seal<S: Shelf>(
         (λ files ledger. seal_on ledger (seal_seen order.now)) result shelf.old shelf.new }
 {
     let deed = make(alloc, order)?;
-    let said = deed.done(alloc, shelf)?;
+    let said = deed.carry_out(alloc, shelf)?;
     Ok(said)
 }

@@ -50,12 +50,12 @@ pub fn prove<S: Shelf, K: Keeper + Drop>(
         (S.Shelf.faults shelf.new) (K.faults keeper.old) (K.faults keeper.new) }
 {
     let mut house = House::over(keeper);
-    let said = proved(alloc, shelf, board, house.prove(alloc, id, seed));
+    let said = say_proved(alloc, shelf, board, house.prove(alloc, id, seed));
     said
 }
 
 /// What `prove` says by the house's answer. The board of a job is written to the named file.
-fn proved<S: Shelf>(
+fn say_proved<S: Shelf>(
     alloc: Global,
     shelf: &mut S,
     name: &str,
@@ -220,13 +220,13 @@ fn answer_challenge<S: Shelf, K: Keeper + Drop>(
         (S.Shelf.faults shelf.new) (K.faults keeper.old) (K.faults keeper.new) }
 {
     let answer = House::over(keeper).answer(alloc, id, challenge);
-    let said = answered(alloc, shelf, reply, challenge, answer);
+    let said = say_answered(alloc, shelf, reply, challenge, answer);
     said
 }
 
 /// What `answer` says by the house's answer. The reply of a job to the challenge is written to the
 /// named file.
-fn answered<S: Shelf>(
+fn say_answered<S: Shelf>(
     alloc: Global,
     shelf: &mut S,
     name: &str,

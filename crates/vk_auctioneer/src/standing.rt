@@ -32,7 +32,7 @@ pub fn announce<K: Keeper + Drop>(
         (λ kept. announce_effect kept id.now width lanes) result keeper.old keeper.new }
 {
     let answer = House::over(keeper).announce(alloc, id, width, lanes);
-    let said = announced(alloc, id, answer);
+    let said = say_announced(alloc, id, answer);
     said
 }
 
@@ -52,12 +52,12 @@ pub fn announce_reserve<K: Keeper + Drop>(
         keeper.new }
 {
     let answer = House::over(keeper).announce_reserve(alloc, id, width, lanes, reserve);
-    let said = announced(alloc, id, answer);
+    let said = say_announced(alloc, id, answer);
     said
 }
 
 /// What `announce` says by the house's answer, with a reserve and without.
-fn announced(alloc: Global, id: &[u8; 16], answer: Result<(), HouseErr>) -> Result<Said, OutsideErr>
+fn say_announced(alloc: Global, id: &[u8; 16], answer: Result<(), HouseErr>) -> Result<Said, OutsideErr>
     ensures said { (width lanes : ℕ)
         → Says (Announce id.now width lanes) (as_reply (λ _. Done) answer) result }
     ensures reserved { (width lanes reserve : ℕ)
@@ -67,13 +67,13 @@ fn announced(alloc: Global, id: &[u8; 16], answer: Result<(), HouseErr>) -> Resu
         → Causes OutsideErr.Failed result before after }
 {
     match answer {
-        Ok(()) => Ok(opened(alloc, id)?),
+        Ok(()) => Ok(say_opened(alloc, id)?),
         Err(refusal) => say_refusal(alloc, 0, refusal),
     }
 }
 
 /// What is said of an auction that was opened.
-fn opened(alloc: Global, id: &[u8; 16]) -> Result<Said, NoMemory>
+fn say_opened(alloc: Global, id: &[u8; 16]) -> Result<Said, NoMemory>
     ensures { IfOk result (λ said. said ≡ done_said (announced_line id.now)) }
 {
     let id = hex::encode(alloc, id.as_slice())?;
@@ -92,12 +92,12 @@ pub fn show<K: Keeper + Drop>(
         (λ kept. show_effect kept id.now) result keeper.old keeper.new }
 {
     let answer = House::over(keeper).show(id);
-    let said = shown(alloc, id, answer);
+    let said = say_standing(alloc, id, answer);
     said
 }
 
 /// What `show` says by the house's answer.
-fn shown(
+fn say_standing(
     alloc: Global,
     id: &[u8; 16],
     answer: Result<Standing, HouseErr>,

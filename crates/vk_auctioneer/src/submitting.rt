@@ -97,13 +97,13 @@ fn handed_in(alloc: Global, seat: u16, answer: Result<u32, HouseErr>) -> Result<
         → Causes OutsideErr.Failed result before after }
 {
     match answer {
-        Ok(position) => Ok(taken(alloc, seat, position)?),
+        Ok(position) => Ok(say_taken(alloc, seat, position)?),
         Err(refusal) => say_refusal(alloc, seat, refusal),
     }
 }
 
 /// What is said of a seal that was taken.
-fn taken(alloc: Global, seat: u16, position: u32) -> Result<Said, NoMemory>
+fn say_taken(alloc: Global, seat: u16, position: u32) -> Result<Said, NoMemory>
     ensures { IfOk result (λ said. said ≡ done_said (taken_line seat position)) }
 {
     let line = format!(in alloc; "taken seat {seat} position {position}\n")?;

@@ -14,8 +14,8 @@ ghost use Rattle.vk_audit.specs.Verdicts.{verified_words, verify_said};
 
 use crate::confrontations::confront_answered;
 use crate::extractions::extract_answered;
-use crate::reports::{reported, unreported};
-use crate::verdicts::{judged, unread};
+use crate::reports::{say_report, say_report_fault};
+use crate::verdicts::{say_verdict, unread};
 use std::alloc::Global;
 use vk_bids::{ConfrontErr, Confrontation, SecretAndReplies, TwoReplies, confront, extract};
 use vk_effect::Said;
@@ -72,7 +72,7 @@ pub fn audit<S: Shelf>(
 {
     match audit {
         AuditOrder::Verify(names) => {
-            let said = verified(alloc, shelf, names)?;
+            let said = say_verified(alloc, shelf, names)?;
             Ok(said)
         }
         AuditOrder::Extract(names) => {
@@ -94,7 +94,7 @@ pub fn audit<S: Shelf>(
 
 /// What is said of one reply.
 #[tactic(auto, using(vk_judge::specs::Wanting::memory_was_wanting))]
-fn verified<S: Shelf>(
+fn say_verified<S: Shelf>(
     alloc: Global,
     shelf: &mut S,
     names: &VerifyNames<'_>,
@@ -107,7 +107,7 @@ fn verified<S: Shelf>(
     let VerifyNames { board, attempt } = *names;
     let names = verified_names(names);
     let said = match verdict(alloc, shelf, board, attempt.challenge, attempt.reply) {
-        Ok(verdict) => judged(alloc, &names, false, verdict)?,
+        Ok(verdict) => say_verdict(alloc, &names, false, verdict)?,
         Err(fault) => unread(alloc, &names, fault)?,
     };
     Ok(said)
@@ -121,8 +121,8 @@ fn report_told<S: Shelf>(alloc: Global, shelf: &mut S, board: &str) -> Result<Sa
     ensures shelf { OnlyReads S.held S.Shelf.faults OutsideErr.Failed result shelf.old shelf.new }
 {
     let said = match read_report(alloc, shelf, board) {
-        Ok(report) => reported(alloc, &report)?,
-        Err(fault) => unreported(alloc, board, fault)?,
+        Ok(report) => say_report(alloc, &report)?,
+        Err(fault) => say_report_fault(alloc, board, fault)?,
     };
     Ok(said)
 }

@@ -15,17 +15,17 @@ ghost use Rattle.vk_bids.specs.Texts.{clash_text};
 ghost use Rattle.vk_words.specs.Names.{confront_seen};
 ghost use Rattle.vk_effect.specs.Effects.{IsCommandEnd};
 
-use crate::verdicts::{judged, same_challenge, unread};
+use crate::verdicts::{say_verdict, same_challenge, unread};
 use std::alloc::Global;
 use vk_bids::{ConfrontErr, Confrontation, confrontation_line};
-use vk_effect::{Said, malformed, missing, too_long};
+use vk_effect::{Said, say_malformed, missing, too_long};
 use vk_io::{OutsideErr, Shelf};
 use vk_judge::VErr;
 use vk_residue::NoMemory;
 use vk_words::ConfrontNames;
 
 /// The line of a confrontation, with that status.
-fn printed(status: u8, confrontation: &Confrontation) -> Said
+fn say_confrontation_line(status: u8, confrontation: &Confrontation) -> Said
     requires { IsCommandEnd status }
     ensures { result ≡ record { status = status; text = confrontation_text confrontation.now } }
 {
@@ -34,7 +34,7 @@ fn printed(status: u8, confrontation: &Confrontation) -> Said
 
 /// What is said of a reply that isn't accepted, or of what the secret comes to against two accepted
 /// replies. Only a line that names a file takes memory.
-pub fn confronted(
+pub fn say_confrontation(
     alloc: Global,
     names: &ConfrontNames<'_>,
     confrontation: &Confrontation,
@@ -48,18 +48,18 @@ pub fn confronted(
     let replies = &names.replies;
     match confrontation {
         Confrontation::Refused { second, verdict } => {
-            let said = judged(alloc, replies, *second, *verdict)?;
+            let said = say_verdict(alloc, replies, *second, *verdict)?;
             Ok(said)
         }
         Confrontation::Same => Ok(same_challenge()),
         Confrontation::Malformed { line } => {
-            let said = malformed(alloc, names.secret, *line)?;
+            let said = say_malformed(alloc, names.secret, *line)?;
             Ok(said)
         }
-        Confrontation::NoSeal { seat: _ } => Ok(printed(8, confrontation)),
-        Confrontation::Mismatch(_) => Ok(printed(8, confrontation)),
-        Confrontation::Clash(_) => Ok(printed(3, confrontation)),
-        Confrontation::Held { seat: _ } => Ok(printed(0, confrontation)),
+        Confrontation::NoSeal { seat: _ } => Ok(say_confrontation_line(8, confrontation)),
+        Confrontation::Mismatch(_) => Ok(say_confrontation_line(8, confrontation)),
+        Confrontation::Clash(_) => Ok(say_confrontation_line(3, confrontation)),
+        Confrontation::Held { seat: _ } => Ok(say_confrontation_line(0, confrontation)),
     }
 }
 
@@ -110,7 +110,7 @@ pub fn confront_answered(
             Ok(said)
         }
         Ok(confrontation) => {
-            let said = confronted(alloc, names, &confrontation)?;
+            let said = say_confrontation(alloc, names, &confrontation)?;
             Ok(said)
         }
     }

@@ -13,7 +13,7 @@ ghost use Rattle.vk_words.specs.Names.{extract_seen};
 ghost use Rattle.vk_audit.specs.Extractions.{extraction_said};
 ghost use Rattle.vk_audit.specs.Verdicts.{answer_said, unread_said};
 
-use crate::verdicts::{judged, same_challenge, unread};
+use crate::verdicts::{say_verdict, same_challenge, unread};
 use std::alloc::Global;
 use vk_bids::{Extraction, clash_line, extraction_lines};
 use vk_effect::Said;
@@ -25,7 +25,7 @@ use vk_words::ExtractNames;
 /// What is said of a reply that isn't accepted, or of what two accepted replies come to. A clash
 /// takes no memory.
 #[tactic(auto, using(vk_judge::specs::Wanting::memory_was_wanting))]
-pub fn extracted(
+pub fn say_extraction(
     alloc: Global,
     names: &ExtractNames<'_>,
     extraction: &Extraction,
@@ -38,7 +38,7 @@ pub fn extracted(
 {
     match extraction {
         Extraction::Refused { second, verdict } => {
-            let said = judged(alloc, names, *second, *verdict)?;
+            let said = say_verdict(alloc, names, *second, *verdict)?;
             Ok(said)
         }
         Extraction::Same => Ok(same_challenge()),
@@ -70,7 +70,7 @@ pub fn extract_answered(
 {
     match answer {
         Ok(extraction) => {
-            let said = extracted(alloc, names, &extraction)?;
+            let said = say_extraction(alloc, names, &extraction)?;
             Ok(said)
         }
         Err(fault) => {

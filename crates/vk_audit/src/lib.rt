@@ -10,8 +10,8 @@ mod reports;
 mod verdicts;
 
 pub use auditing::{AuditOrder, audit, replies_of, verified_names};
-pub use confrontations::{confront_answered, confront_unread, confronted};
-pub use extractions::{extract_answered, extracted};
+pub use confrontations::{confront_answered, confront_unread, say_confrontation};
+pub use extractions::{extract_answered, say_extraction};
 pub use laws::statuses_mean_what_the_files_are;
-pub use reports::{reported, unreported};
-pub use verdicts::{judged, same_challenge, unread};
+pub use reports::{say_report, say_report_fault};
+pub use verdicts::{say_verdict, same_challenge, unread};

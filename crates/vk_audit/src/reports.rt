@@ -6,13 +6,13 @@ ghost use Rattle.vk_report.specs.Reports.{IsReport, fault_of};
 ghost use Rattle.vk_audit.specs.Reports.{reported_said, unreported_said};
 
 use std::alloc::Global;
-use vk_effect::{Said, malformed, missing, refused, too_long};
+use vk_effect::{Said, say_malformed, missing, say_refused, too_long};
 use vk_io::OutsideErr;
 use vk_report::{Report, ReportErr, report_lines};
 use vk_residue::NoMemory;
 
 /// What is said of a board: its report.
-pub fn reported(alloc: Global, report: &Report) -> Result<Said, NoMemory>
+pub fn say_report(alloc: Global, report: &Report) -> Result<Said, NoMemory>
     requires { IsReport report.now }
     ensures { IfOk result (λ said. said ≡ reported_said report.now) }
 {
@@ -21,7 +21,7 @@ pub fn reported(alloc: Global, report: &Report) -> Result<Said, NoMemory>
 }
 
 /// What is said of the first fault of the board's file. A failure is handed on.
-pub fn unreported(alloc: Global, board: &str, fault: ReportErr) -> Result<Said, OutsideErr>
+pub fn say_report_fault(alloc: Global, board: &str, fault: ReportErr) -> Result<Said, OutsideErr>
     ensures said { IfOk result (λ said. said ≡ unreported_said board.now fault) }
     ensures file { OnOk result (fault_of fault ≡ Some fault) }
     ensures causes { (before after : ℕ)
@@ -31,9 +31,9 @@ pub fn unreported(alloc: Global, board: &str, fault: ReportErr) -> Result<Said, 
     let said = match fault {
         ReportErr::Missing => missing(alloc, board)?,
         ReportErr::TooLong => too_long(alloc, board)?,
-        ReportErr::Malformed { line } => malformed(alloc, board, line)?,
-        ReportErr::Price => refused(alloc, board, "price")?,
-        ReportErr::Winner => refused(alloc, board, "winner")?,
+        ReportErr::Malformed { line } => say_malformed(alloc, board, line)?,
+        ReportErr::Price => say_refused(alloc, board, "price")?,
+        ReportErr::Winner => say_refused(alloc, board, "winner")?,
         ReportErr::Failed => return Err(OutsideErr::Failed),
         ReportErr::NoMemory => return Err(OutsideErr::NoMemory),
     };

@@ -8,7 +8,7 @@ ghost use Rattle.vk_effect.specs.NamedFiles.{refused_said};
 ghost use Rattle.vk_audit.specs.Verdicts.{IsOfFile, fault_text, judged_said, name_of, reply_of, row_cause, same_said, unread_said, wire_cause};
 
 use std::alloc::Global;
-use vk_effect::{Said, malformed, missing, refused, too_long};
+use vk_effect::{Said, say_malformed, missing, say_refused, too_long};
 use vk_io::OutsideErr;
 use vk_judge::{Part, VErr};
 use vk_residue::NoMemory;
@@ -65,7 +65,7 @@ fn wire_refused(
 {
     let fault = fault_text(fault);
     let cause = format!(in alloc; "lane {lane} wire {wire} {fault}")?;
-    let said = refused(alloc, reply, cause.as_str())?;
+    let said = say_refused(alloc, reply, cause.as_str())?;
     Ok(said)
 }
 
@@ -74,13 +74,13 @@ fn row_refused(alloc: Global, reply: &str, lane: u32, row: u32) -> Result<Said, 
     ensures { IfOk result (λ said. said ≡ refused_said reply.now (row_cause lane row)) }
 {
     let cause = format!(in alloc; "lane {lane} row {row}")?;
-    let said = refused(alloc, reply, cause.as_str())?;
+    let said = say_refused(alloc, reply, cause.as_str())?;
     Ok(said)
 }
 
 /// What is said of the verdict on the first reply, or on the second. Of one reply alone both names
 /// are the same. That it is accepted takes no memory.
-pub fn judged(
+pub fn say_verdict(
     alloc: Global,
     names: &ExtractNames<'_>,
     second: bool,
@@ -94,10 +94,10 @@ pub fn judged(
     let reply = reply_of(names, second);
     let said = match verdict {
         BoardVerdict::Accepted => Said::of_short(0, ShortText::new().word("accepted\n")),
-        BoardVerdict::Malformed { part, line } => malformed(alloc, name_of(names, part), line)?,
-        BoardVerdict::Price => refused(alloc, board, "price")?,
-        BoardVerdict::Winner => refused(alloc, board, "winner")?,
-        BoardVerdict::Lanes => refused(alloc, reply, "lanes")?,
+        BoardVerdict::Malformed { part, line } => say_malformed(alloc, name_of(names, part), line)?,
+        BoardVerdict::Price => say_refused(alloc, board, "price")?,
+        BoardVerdict::Winner => say_refused(alloc, board, "winner")?,
+        BoardVerdict::Lanes => say_refused(alloc, reply, "lanes")?,
         BoardVerdict::Wire { lane, wire, fault } => wire_refused(alloc, reply, lane, wire, fault)?,
         BoardVerdict::Row { lane, row } => row_refused(alloc, reply, lane, row)?,
     };

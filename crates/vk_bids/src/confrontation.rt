@@ -115,7 +115,7 @@ pub fn confront<S: Shelf>(
     let mut lines = begin_secret(alloc, shelf, names.secret)?;
     let extraction = extract_rest(alloc, shelf, checker)?;
     let secret = secret_of(alloc, shelf, &mut lines)?;
-    let confrontation = confronted(extraction, secret);
+    let confrontation = compare_secret(extraction, secret);
     Ok(confrontation)
 }
 
@@ -130,12 +130,12 @@ fn begin_secret<S: Shelf>(alloc: Global, shelf: &mut S, name: &str) -> Result<Li
         shelf.old shelf.new }
 {
     let started = Lines::start(alloc, shelf, name);
-    let lines = begun(started);
+    let lines = begin_secret(started);
     lines
 }
 
 /// The secret's file from its first line on, or why it was not begun.
-fn begun(started: Result<Lines, StartErr>) -> Result<Lines, ConfrontErr>
+fn begin_secret(started: Result<Lines, StartErr>) -> Result<Lines, ConfrontErr>
     ensures modelled { (files : Files) (name : List ℕ) → Starts files name started
         → Gives fault_of (λ lines. rest_of lines files) result (secret_begun (map.get files name)) }
     ensures causes { (before : ℕ) (after : ℕ) → Causes StartErr.Failed started before after
@@ -187,7 +187,7 @@ fn secret_or_fault(read: Result<Secret, ReadErr>) -> Result<Result<Secret, u64>,
 }
 
 /// The secret against what the replies come to.
-fn confronted(extraction: Extraction, secret: Result<Secret, u64>) -> Confrontation
+fn compare_secret(extraction: Extraction, secret: Result<Secret, u64>) -> Confrontation
     requires shows { Shows extraction }
     requires secret { IfOk secret IsSecret }
     ensures { result ≡ confrontation_of extraction secret }

@@ -65,13 +65,13 @@ pub fn extract_checked<S: Shelf, H: Drop, R: Copy>(
     ensures shelf { OnlyReads S.held S.Shelf.faults OutsideErr.Failed result shelf.old shelf.new }
 {
     let (checker, gathered) = gather(alloc, shelf, checker)?;
-    let found = concluded(checker, gathered);
+    let found = conclude(checker, gathered);
     Ok(found)
 }
 
 /// What was found, with what was gathered.
 #[tactic(auto, using(crate::proofs::FileExtraction::opens_base))]
-fn concluded<H: Drop, R: Copy>(checker: Checker<H, R>, gathered: Gathered) -> FileExtraction<H, R>
+fn conclude<H: Drop, R: Copy>(checker: Checker<H, R>, gathered: Gathered) -> FileExtraction<H, R>
     requires over { IsCheckedOver checker }
     requires opens { IfSome (checked_base checker)
         (λ known. IfOk gathered (All (LaneOpens known.base.statement))) }

@@ -9,7 +9,7 @@ ghost use Rattle.vk_board.specs.Fronts.{IsFront, fault_of, front_of, front_at};
 ghost use Rattle.vk_board.specs.declared.front.FrontErr.TheVariants as refusal;
 
 use crate::board::{Head, SealLines};
-use crate::published::{placed, price_stands};
+use crate::published::{place_of_winner, price_stands};
 use crate::reading::{read_head, read_seals};
 use std::alloc::Global;
 use vk_io::Shelf;
@@ -85,7 +85,7 @@ fn front_from(head: Head, seals: Seq<SealLines>) -> Result<Front, FrontErr>
     if !price_stands(&head) {
         return Err(FrontErr::Price);
     }
-    match placed(head.winner, seals.as_slice()) {
+    match place_of_winner(head.winner, seals.as_slice()) {
         None => Err(FrontErr::Winner),
         Some(position) => Ok(Front {
             head,

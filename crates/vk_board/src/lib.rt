@@ -17,6 +17,6 @@ pub use laws::{
     heads_are_read_from_their_texts_alone, lanes_are_read_from_their_texts_alone,
     reading_a_board_stops_at_the_fault_line, seals_are_read_from_their_texts_alone,
 };
-pub use published::{placed, position_of, price_stands};
+pub use published::{place_of_winner, position_of, price_stands};
 pub use reading::{read_head, read_lane, read_seal_lines, read_seals};
 pub use writing::{head_text, lane_text, seal_lines_text};

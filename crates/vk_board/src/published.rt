@@ -46,7 +46,7 @@ pub fn position_of(seat: u16, seals: &[SealLines]) -> Option<u32>
 
 /// The winner's place among the seals, from 1; no place where nothing is sold. None where a winner
 /// is named and no seal has that seat.
-pub fn placed(winner: Option<u16>, seals: &[SealLines]) -> Option<Option<u32>>
+pub fn place_of_winner(winner: Option<u16>, seals: &[SealLines]) -> Option<Option<u32>>
     requires { length seals.now ≤ 64 }
     ensures { result ≡ placed winner seals.now }
 {

@@ -120,7 +120,7 @@ fn read_winner<S: Shelf>(
     ensures right { IfOk result (IsWinner version) }
 {
     lines.read_text(shelf)?;
-    let winner = lines.found(winner_of(lines.text(), version));
+    let winner = lines.require(winner_of(lines.text(), version));
     winner
 }
 
@@ -242,7 +242,7 @@ fn read_seat<S: Shelf>(
     ensures new { IfOk result (λ seat. is_new_seat (seats_of before.now) seat ≡ true) }
 {
     lines.read_text(shelf)?;
-    let seat = lines.found(seat_of(lines.text(), before));
+    let seat = lines.require(seat_of(lines.text(), before));
     seat
 }
 

@@ -9,7 +9,7 @@ ghost use Rattle.vk_ceremony.specs.Turns.{ClosesSaying, EndsWell, IsNextTurn};
 
 use crate::holding::Turn;
 use std::alloc::Global;
-use vk_effect::{Said, malformed};
+use vk_effect::{Said, say_malformed};
 use vk_io::{OutsideErr, Sink};
 use vk_residue::NoMemory;
 
@@ -41,7 +41,7 @@ fn closing(alloc: Global, script: &str, fault: Option<u64>, refused: bool) -> Re
 {
     match fault {
         Some(number) => {
-            let said = malformed(alloc, script, number)?;
+            let said = say_malformed(alloc, script, number)?;
             Ok(said)
         }
         None => {

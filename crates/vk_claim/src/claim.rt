@@ -11,7 +11,7 @@ use crate::front::{ClaimFront, read_claim_front};
 use crate::head::ClaimHead;
 use std::alloc::Global;
 use vk_io::{OutsideErr, Shelf};
-use vk_judge::{Opened, Part, Refusal, Statement, in_part, known};
+use vk_judge::{Opened, Part, Refusal, Statement, in_part, refusal_as_value};
 use vk_lines::Lines;
 use vk_residue::NoMemory;
 
@@ -43,7 +43,7 @@ pub fn read_claim<S: Shelf, Q: Circuits>(
     ensures shelf { OnlyReads S.held S.Shelf.faults OutsideErr.Failed result shelf.old shelf.new }
 {
     let read = in_part(Part::Board, read_claim_front(alloc, shelf, lines));
-    match known(read)? {
+    match refusal_as_value(read)? {
         Err(fault) => Ok(Err(Refusal::Fault(fault))),
         Ok(front) => {
             let claim = claim_with(alloc, circuits, front)?;

@@ -74,7 +74,7 @@ fn read_kind<S: Shelf>(shelf: &mut S, lines: &mut Lines) -> Result<Kind, ReadErr
         lines.old lines.new shelf.old shelf.new result }
 {
     lines.read_text(shelf)?;
-    let kind = lines.found(kind_of(lines.text()));
+    let kind = lines.require(kind_of(lines.text()));
     kind
 }
 

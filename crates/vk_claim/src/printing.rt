@@ -65,15 +65,15 @@ fn value_line(alloc: Global, number: u32, value: &OpenedBid) -> Result<String, N
     ensures { IfOk result (λ line. string_bytes line ≡ value_line number value.now) }
 {
     let (seat, sum) = (value.seat, value.bid.get());
-    let u = shown(alloc, &value.first)?;
-    let v = shown(alloc, &value.second)?;
+    let u = opening_text(alloc, &value.first)?;
+    let v = opening_text(alloc, &value.second)?;
     let line = format!(in alloc; "lane {number} seat {seat} value {sum} u {u} v {v}\n")?;
     Ok(line)
 }
 
 /// An opening's key and its value.
 #[tactic(auto, unfolding(vk_bids::specs::Texts::opening_text))]
-fn shown(alloc: Global, opening: &Opening) -> Result<String, NoMemory>
+fn opening_text(alloc: Global, opening: &Opening) -> Result<String, NoMemory>
     ensures { IfOk result (λ text. string_bytes text ≡ opening_text opening.now) }
 {
     let key = hex::encode(alloc, opening.key.as_slice())?;

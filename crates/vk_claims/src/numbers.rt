@@ -68,7 +68,7 @@ fn sale_of(alloc: Global, case: &SampleCase) -> Result<Seq<u64>, NoMemory>
 {
     let outcome = uniform(alloc, case.bids.as_slice(), UNITS)?;
     let front = [u64::from(case.width), outcome.price];
-    let numbers = listed(alloc, &front, outcome.winners.as_slice())?;
+    let numbers = list_numbers(alloc, &front, outcome.winners.as_slice())?;
     Ok(numbers)
 }
 
@@ -80,12 +80,12 @@ fn matching_of(alloc: Global, case: &SampleCase) -> Result<Seq<u64>, NoMemory>
     ensures wanting { IsErr result → MemoryWasWanting }
 {
     let matching = propose(alloc, COUPLES, case.bids.as_slice())?;
-    let numbers = listed(alloc, &[u64::from(case.width)], matching.as_slice())?;
+    let numbers = list_numbers(alloc, &[u64::from(case.width)], matching.as_slice())?;
     Ok(numbers)
 }
 
 /// These numbers, and then those of persons.
-fn listed(alloc: Global, front: &[u64], persons: &[u32]) -> Result<Seq<u64>, NoMemory>
+fn list_numbers(alloc: Global, front: &[u64], persons: &[u32]) -> Result<Seq<u64>, NoMemory>
     ensures { IfOk result (λ numbers. numbers ≡ front.now ++ persons.now) }
 {
     let mut numbers = Vec::from_slice(alloc, front)?;

@@ -7,7 +7,7 @@ ghost use Rattle.vk_claims.specs.Texts.{claim_read, read_said};
 
 use crate::circuits::ClaimCircuits;
 use crate::names::claim_names;
-use crate::summary::opened;
+use crate::summary::say_read_back;
 use std::alloc::Global;
 use vk_audit::{replies_of, unread};
 use vk_claim::extract_claim;
@@ -29,7 +29,7 @@ pub fn read_back<S: Shelf>(
 {
     let names = claim_names();
     let said = match extract_claim(alloc, shelf, &ClaimCircuits, &replies_of(&names)) {
-        Ok(extraction) => opened(alloc, made, &extraction)?,
+        Ok(extraction) => say_read_back(alloc, made, &extraction)?,
         Err(fault) => unread(alloc, &names, fault)?,
     };
     Ok(said)

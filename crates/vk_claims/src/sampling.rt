@@ -72,7 +72,7 @@ fn make_and_hold<S: Shelf>(
             said
         }
         Err(dry) => {
-            let said = dry.said()?;
+            let said = dry.say()?;
             Ok(said)
         }
     }

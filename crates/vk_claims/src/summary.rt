@@ -70,7 +70,7 @@ fn values_lines(
 
 /// What is said of what the replies come to as they were read back. A clash takes no memory.
 #[tactic(auto, using(vk_judge::specs::Wanting::memory_was_wanting))]
-pub fn opened(
+pub fn say_read_back(
     alloc: Global,
     made: Vec<String>,
     extraction: &ClaimExtraction,

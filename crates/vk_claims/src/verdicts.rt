@@ -5,9 +5,9 @@ ghost use Rattle.vk_words.specs.Names.{extract_seen};
 ghost use Rattle.vk_claims.specs.Verdicts.{claim_judged_said, claim_refused_said};
 
 use std::alloc::Global;
-use vk_audit::judged;
+use vk_audit::say_verdict;
 use vk_claim::ClaimRefusal;
-use vk_effect::{Said, refused};
+use vk_effect::{Said, say_refused};
 use vk_judge::Refusal;
 use vk_residue::NoMemory;
 use vk_verifier::BoardVerdict;
@@ -25,8 +25,8 @@ pub fn claim_refused(
         (λ said. said ≡ claim_refused_said (extract_seen names.now) second refusal) }
 {
     let said = match refusal {
-        Refusal::Front(ClaimRefusal::Public) => refused(alloc, names.board, "public")?,
-        Refusal::Fault(fault) => judged(alloc, names, second, BoardVerdict::from(fault))?,
+        Refusal::Front(ClaimRefusal::Public) => say_refused(alloc, names.board, "public")?,
+        Refusal::Fault(fault) => say_verdict(alloc, names, second, BoardVerdict::from(fault))?,
     };
     Ok(said)
 }
@@ -42,7 +42,7 @@ pub fn claim_judged(
     ensures accepted { answer ≡ Ok tt → IsOk result }
 {
     let said = match answer {
-        Ok(()) => judged(alloc, names, false, BoardVerdict::Accepted)?,
+        Ok(()) => say_verdict(alloc, names, false, BoardVerdict::Accepted)?,
         Err(refusal) => claim_refused(alloc, names, false, refusal)?,
     };
     Ok(said)

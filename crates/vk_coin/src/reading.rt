@@ -58,7 +58,7 @@ fn read_show<S: Shelf>(alloc: Global, shelf: &mut S, lines: &mut Lines) -> Resul
 {
     lines.read_text(shelf)?;
     let value = show_line(alloc, lines.text())?;
-    let show = lines.found(value);
+    let show = lines.require(value);
     show
 }
 
@@ -204,6 +204,6 @@ fn read_shown<S: Shelf>(
 {
     lines.read_text(shelf)?;
     let value = shown_line(alloc, bits, auditor, lines.text())?;
-    let show = lines.found(value)?;
+    let show = lines.require(value)?;
     Ok(share_of(auction, auditor, show))
 }

@@ -12,7 +12,7 @@ use vk_text::ShortText;
 use vk_words::ChallengeNames;
 
 /// A challenge is written.
-pub fn derived(
+pub fn derive_deed(
     alloc: Global,
     names: &ChallengeNames<'_>,
     challenge: &Challenge,
@@ -21,12 +21,12 @@ pub fn derived(
         ≡ derive_deed (challenge_seen names.now) (Ok challenge.now)) }
 {
     let text = challenge_text(alloc, challenge)?;
-    let deed = Deed::says(alloc, told(challenge)).with_file(alloc, names.challenge, text)?;
+    let deed = Deed::says(alloc, say_derived(challenge)).with_file(alloc, names.challenge, text)?;
     Ok(deed)
 }
 
 /// What is said of a challenge that is derived. Takes no memory.
-fn told(challenge: &Challenge) -> Said
+fn say_derived(challenge: &Challenge) -> Said
     ensures { result ≡ derived_said (length challenge.now.bits) }
 {
     let line = ShortText::new()

@@ -9,11 +9,11 @@ ghost use Rattle.vk_io.specs.Faults.{Causes};
 ghost use Rattle.vk_io.specs.Reads.{OnlyReads};
 ghost use Rattle.std.specs.Prelude.{◌≡◌, IfOk, IfSome, Option};
 
-use crate::boards::derived;
+use crate::boards::derive_deed;
 use crate::drawing::part;
-use crate::joining::{joined, named_coin};
+use crate::joining::{join_deed, named_coin};
 use std::alloc::Global;
-use vk_audit::unreported;
+use vk_audit::say_report_fault;
 use vk_coin::board_challenge;
 use vk_effect::{Deed, Said};
 use vk_io::{OutsideErr, Shelf};
@@ -35,7 +35,7 @@ pub fn make_challenge<S: Shelf>(
         (S.Shelf.faults shelf.new) }
 {
     let deed = deed(alloc, shelf, order)?;
-    let said = deed.done(alloc, shelf)?;
+    let said = deed.carry_out(alloc, shelf)?;
     Ok(said)
 }
 
@@ -53,15 +53,15 @@ fn deed<S: Shelf>(alloc: Global, shelf: &mut S, order: &CoinOrder<'_>) -> Result
         }
         CoinOrder::Join(names) => {
             let deed = match named_coin(alloc, shelf, names.from) {
-                Ok(coin) => joined(alloc, names, &coin)?,
+                Ok(coin) => join_deed(alloc, names, &coin)?,
                 Err(unread) => Deed::says(alloc, unread.said_or_stopped()?),
             };
             Ok(deed)
         }
         CoinOrder::Board(names) => {
             let deed = match board_challenge(alloc, shelf, names.from) {
-                Ok(challenge) => derived(alloc, names, &challenge)?,
-                Err(fault) => Deed::says(alloc, unreported(alloc, names.from, fault)?),
+                Ok(challenge) => derive_deed(alloc, names, &challenge)?,
+                Err(fault) => Deed::says(alloc, say_report_fault(alloc, names.from, fault)?),
             };
             Ok(deed)
         }

@@ -22,14 +22,14 @@ pub fn part(alloc: Global, order: &PartOrder<'_>) -> Result<Deed, NoMemory>
     requires { IsPartOrder (part_seen order.now) }
     ensures { IfOk result (λ deed. deed ≡ part_deed (part_seen order.now)) }
 {
-    let share = drawn(alloc, order)?;
-    let deed = kept(alloc, order.share, &share)?;
+    let share = draw_part(alloc, order)?;
+    let deed = keep_share(alloc, order.share, &share)?;
     Ok(deed)
 }
 
 /// The share that the seed's words give in the auditor's stream.
 #[tactic(auto, unfolding(crate::specs::Drawing::share_of))]
-fn drawn(alloc: Global, order: &PartOrder<'_>) -> Result<Share, NoMemory>
+fn draw_part(alloc: Global, order: &PartOrder<'_>) -> Result<Share, NoMemory>
     requires { IsPartOrder (part_seen order.now) }
     ensures share { IfOk result (λ share. share ≡ share_of (part_seen order.now)) }
     ensures right { IfOk result IsShare }
@@ -47,17 +47,17 @@ fn drawn(alloc: Global, order: &PartOrder<'_>) -> Result<Share, NoMemory>
 }
 
 /// A share is written to the named file, and its commitment is said.
-fn kept(alloc: Global, name: &str, share: &Share) -> Result<Deed, NoMemory>
+fn keep_share(alloc: Global, name: &str, share: &Share) -> Result<Deed, NoMemory>
     requires { length share.now.bits ≤ 64 }
     ensures { IfOk result (λ deed. deed ≡ share_deed name.now share.now) }
 {
     let text = share_text(alloc, share)?;
-    let deed = Deed::says(alloc, committed(share)).with_file(alloc, name, text)?;
+    let deed = Deed::says(alloc, say_commitment(share)).with_file(alloc, name, text)?;
     Ok(deed)
 }
 
 /// What is said of a share. Takes no memory.
-fn committed(share: &Share) -> Said
+fn say_commitment(share: &Share) -> Said
     requires { length share.now.bits ≤ 64 }
     ensures { result ≡ committed_said share.now }
 {

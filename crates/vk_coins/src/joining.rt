@@ -10,7 +10,7 @@ ghost use Rattle.vk_coins.specs.Joining.{coin_deed, coin_in, joined_said, unmet_
 
 use std::alloc::Global;
 use vk_coin::{Coin, JointErr, joint, read_coin};
-use vk_effect::{Deed, Said, Unread, begin_named, named_value, numbers_line, refused};
+use vk_effect::{Deed, Said, Unread, begin_named, named_value, numbers_line, say_refused};
 use vk_io::Shelf;
 use vk_reply::challenge_text;
 use vk_residue::NoMemory;
@@ -31,14 +31,14 @@ pub fn named_coin<S: Shelf>(alloc: Global, shelf: &mut S, name: &str) -> Result<
 }
 
 /// The joint challenge of a coin is written, or the first share is said that doesn't open its part.
-pub fn joined(alloc: Global, names: &ChallengeNames<'_>, coin: &Coin) -> Result<Deed, NoMemory>
+pub fn join_deed(alloc: Global, names: &ChallengeNames<'_>, coin: &Coin) -> Result<Deed, NoMemory>
     requires { IsCoin coin.now }
     ensures { IfOk result (λ deed. deed ≡ coin_deed (challenge_seen names.now) coin.now) }
 {
     match joint(alloc, coin) {
         Ok(challenge) => {
             let text = challenge_text(alloc, &challenge)?;
-            let deed = Deed::says(alloc, told(coin)).with_file(alloc, names.challenge, text)?;
+            let deed = Deed::says(alloc, say_joined(coin)).with_file(alloc, names.challenge, text)?;
             Ok(deed)
         }
         Err(JointErr::Part { auditor }) => {
@@ -50,7 +50,7 @@ pub fn joined(alloc: Global, names: &ChallengeNames<'_>, coin: &Coin) -> Result<
 }
 
 /// What is said of a coin that is joined. Takes no memory.
-fn told(coin: &Coin) -> Said
+fn say_joined(coin: &Coin) -> Said
     requires { IsCoin coin.now }
     ensures { result ≡ joined_said coin.now }
 {
@@ -66,6 +66,6 @@ fn unmet(alloc: Global, name: &str, auditor: u16) -> Result<Said, NoMemory>
     ensures { IfOk result (λ said. said ≡ unmet_said name.now auditor) }
 {
     let cause = format!(in alloc; "part {auditor}")?;
-    let said = refused(alloc, name, cause.as_str())?;
+    let said = say_refused(alloc, name, cause.as_str())?;
     Ok(said)
 }

@@ -55,7 +55,7 @@ impl Deed {
     }
 
     /// Writes the files, each created and then filled, and hands on what is to be said.
-    pub fn done<S: Shelf>(self, alloc: Global, shelf: &mut S) -> Result<Said, OutsideErr>
+    pub fn carry_out<S: Shelf>(self, alloc: Global, shelf: &mut S) -> Result<Said, OutsideErr>
         ensures acts { (ledger : Option Ledger) → Acts result (does ledger self)
             (stores (S.held shelf.old) ledger) (stores (S.held shelf.new) ledger) }
         ensures causes { Causes OutsideErr.Failed result (S.Shelf.faults shelf.old)

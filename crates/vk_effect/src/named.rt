@@ -27,7 +27,7 @@ pub fn too_long(alloc: Global, name: &str) -> Result<Said, NoMemory>
 
 /// The line of a file whose line of that number, from 1, is the first that isn't what its place
 /// demands.
-pub fn malformed(alloc: Global, name: &str, line: u64) -> Result<Said, NoMemory>
+pub fn say_malformed(alloc: Global, name: &str, line: u64) -> Result<Said, NoMemory>
     ensures { IfOk result (λ said. said ≡ malformed_said name.now line) }
 {
     let line = format!(in alloc; "malformed {name} line {line}\n")?;
@@ -36,7 +36,7 @@ pub fn malformed(alloc: Global, name: &str, line: u64) -> Result<Said, NoMemory>
 }
 
 /// The line of a file of its form that is refused, and for what.
-pub fn refused(alloc: Global, name: &str, cause: &str) -> Result<Said, NoMemory>
+pub fn say_refused(alloc: Global, name: &str, cause: &str) -> Result<Said, NoMemory>
     ensures { IfOk result (λ said. said ≡ refused_said name.now cause.now) }
 {
     let line = format!(in alloc; "refused {name} {cause}\n")?;

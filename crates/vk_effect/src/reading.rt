@@ -10,7 +10,7 @@ ghost use Rattle.vk_lines.specs.Lines.{IsBefore, GivesReading, Rest, Starts, res
 ghost use Rattle.vk_effect.specs.Effects.{SaidValue};
 ghost use Rattle.vk_effect.specs.Reading.{begun_in, said_of_unread, said_or_stopped, value_in};
 
-use crate::named::{malformed, missing, too_long};
+use crate::named::{say_malformed, missing, too_long};
 use crate::said::Said;
 use std::alloc::Global;
 use vk_io::{OutsideErr, Shelf};
@@ -61,12 +61,12 @@ pub fn begin_named<S: Shelf>(alloc: Global, shelf: &mut S, name: &str) -> Result
     ensures shelf { OnlyReads S.held S.Shelf.faults Unread.Failed result shelf.old shelf.new }
 {
     let started = Lines::start(alloc, shelf, name);
-    let lines = begun(alloc, name, started);
+    let lines = begin_named(alloc, name, started);
     lines
 }
 
 /// The named file from its first line on, or why it was not begun.
-fn begun(alloc: Global, name: &str, started: Result<Lines, StartErr>) -> Result<Lines, Unread>
+fn begin_named(alloc: Global, name: &str, started: Result<Lines, StartErr>) -> Result<Lines, Unread>
     requires { IfOk started (IsBefore name.now) }
     ensures modelled { (files : Files) → Starts files name.now started
         → Gives said_of_unread (λ lines. rest_of lines files) result
@@ -102,7 +102,7 @@ pub fn named_value<X>(alloc: Global, name: &str, read: Result<X, ReadErr>) -> Re
     match read {
         Ok(value) => Ok(value),
         Err(ReadErr::Malformed { line }) => {
-            let said = malformed(alloc, name, line)?;
+            let said = say_malformed(alloc, name, line)?;
             Err(Unread::Said(said))
         }
         Err(ReadErr::Failed) => Err(Unread::Failed),

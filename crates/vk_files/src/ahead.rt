@@ -7,7 +7,7 @@ ghost use Rattle.vk_files.specs.Moves.{GivesFrom};
 
 use crate::faults::FaultCount;
 use crate::moves::read_from;
-use crate::outcome::counted;
+use crate::outcome::count_fault;
 use std::alloc::Global;
 use std::io::{Read, Seek};
 use std::marker::Model;
@@ -96,7 +96,7 @@ impl Ahead {
     {
         self.count = 0;
         self.from = at;
-        let count = counted(read_from(file, at, &mut self.bytes), faults)?;
+        let count = count_fault(read_from(file, at, &mut self.bytes), faults)?;
         self.count = count;
         Ok(())
     }
@@ -131,7 +131,7 @@ impl Ahead {
         ensures counted { CountsOnce result faults.old faults.new }
     {
         if into.len() > MOST_AHEAD {
-            let count = counted(read_from(file, at, into), faults)?;
+            let count = count_fault(read_from(file, at, into), faults)?;
             return Ok(count);
         }
         let count = self.copy(at, into);

@@ -12,8 +12,8 @@ use crate::kinds::{Kind, admit_to_write, file_length};
 use crate::links::end_of_links;
 use crate::moves::put_counted;
 use crate::named_ids::{NamedId, is_named_otherwise, note};
-use crate::opening::{length_of, make_to_write, open_to_read, open_to_write, synced};
-use crate::outcome::{counted, with_want};
+use crate::opening::{length_of, make_to_write, open_to_read, open_to_write, sync_written};
+use crate::outcome::{count_fault, with_want};
 use crate::store::Store;
 use crate::told_names::{is_told, tell};
 use std::alloc::Global;
@@ -166,7 +166,7 @@ impl<R: Files> FileShelf<'_, R> {
 
     /// The place of the file under that name, which is opened where it isn't open. None where
     /// nothing is there; but where a length of it was told that is a fault.
-    fn opened(&mut self, name: &str) -> Result<Option<usize>, OutsideErr>
+    fn open_named(&mut self, name: &str) -> Result<Option<usize>, OutsideErr>
         ensures place { IfOk result
             (λ found. IfSome found (λ place. place < length self.new.kept.items)) }
         ensures name { IfOk result
@@ -183,11 +183,11 @@ impl<R: Files> FileShelf<'_, R> {
             return Ok(Some(place));
         }
         let was_there = is_told(&self.told, name);
-        match counted(open_to_read(self.rt, name, was_there), &mut self.faults)? {
+        match count_fault(open_to_read(self.rt, name, was_there), &mut self.faults)? {
             None => Ok(None),
             Some(file) => {
-                let metadata = counted(file.metadata(), &mut self.faults)?;
-                counted(file_length(&metadata), &mut self.faults)?;
+                let metadata = count_fault(file.metadata(), &mut self.faults)?;
+                count_fault(file_length(&metadata), &mut self.faults)?;
                 self.note(&metadata, name)?;
                 let place = self.keep(name, file)?;
                 Ok(Some(place))
@@ -218,8 +218,8 @@ impl<R: Files> FileShelf<'_, R> {
         match self.written.take() {
             None => Ok(()),
             Some(written) => {
-                let settled = counted(synced(&written.file), &mut self.faults);
-                self.noted(written.name.as_str(), settled)
+                let settled = count_fault(sync_written(&written.file), &mut self.faults);
+                self.note_fault(written.name.as_str(), settled)
             }
         }
     }
@@ -237,7 +237,7 @@ impl<R: Files> FileShelf<'_, R> {
             if name == written.name.as_str() {
                 return Ok(written);
             }
-            counted(synced(&written.file), &mut self.faults)?;
+            count_fault(sync_written(&written.file), &mut self.faults)?;
         }
         let opened = self.opened_to_write(name, true)?;
         Ok(opened)
@@ -257,12 +257,12 @@ impl<R: Files> FileShelf<'_, R> {
     {
         let owned = String::from_str(self.alloc, name).map_err(NoMemory::from)?;
         let file = self.found_or_made(name, at_end)?;
-        let metadata = counted(file.metadata(), &mut self.faults)?;
-        counted(admit_to_write(Kind::of(&metadata)), &mut self.faults)?;
+        let metadata = count_fault(file.metadata(), &mut self.faults)?;
+        count_fault(admit_to_write(Kind::of(&metadata)), &mut self.faults)?;
         self.admit(&metadata, name)?;
         self.note(&metadata, name)?;
         if metadata.is_file() && !at_end {
-            counted(file.set_len(0), &mut self.faults)?;
+            count_fault(file.set_len(0), &mut self.faults)?;
         }
         Ok(NamedFile { name: owned, file })
     }
@@ -274,14 +274,14 @@ impl<R: Files> FileShelf<'_, R> {
         ensures causes { Causes OutsideErr.Failed result self.old.faults self.new.faults }
         ensures wants { self.new.wants ≡ self.old.wants }
     {
-        if let Some(file) = counted(open_to_write(self.rt, name, at_end), &mut self.faults)? {
+        if let Some(file) = count_fault(open_to_write(self.rt, name, at_end), &mut self.faults)? {
             return Ok(file);
         }
         let path = end_of_links(self.rt, self.alloc, name)?;
         if self.store.awaits(path.as_str(), &mut self.faults)? {
-            return refused(&mut self.faults);
+            return refuse_write(&mut self.faults);
         }
-        let file = counted(
+        let file = count_fault(
             make_to_write(self.rt, path.as_str(), at_end),
             &mut self.faults,
         )?;
@@ -309,7 +309,7 @@ impl<R: Files> FileShelf<'_, R> {
         ensures wants { self.new.wants ≡ self.old.wants }
     {
         if self.store.has(id, &mut self.faults)? || is_named_otherwise(&self.opened, id, name) {
-            return refused(&mut self.faults);
+            return refuse_write(&mut self.faults);
         }
         Ok(())
     }
@@ -347,7 +347,7 @@ impl<R: Files> FileShelf<'_, R> {
     }
 
     /// The same answer. Which file a fault is of is noted, and want of memory is counted.
-    fn noted<T>(&mut self, name: &str, answer: Result<T, OutsideErr>) -> Result<T, OutsideErr>
+    fn note_fault<T>(&mut self, name: &str, answer: Result<T, OutsideErr>) -> Result<T, OutsideErr>
         ensures same { result ≡ answer }
         ensures written { self.new.written ≡ self.old.written }
         ensures faults { self.new.faults ≡ self.old.faults }
@@ -377,7 +377,7 @@ impl<R: Files> FileShelf<'_, R> {
         ensures wants { self.new.wants ≡ self.old.wants }
     {
         self.close(name);
-        let length = counted(length_of(self.rt, name), &mut self.faults)?;
+        let length = count_fault(length_of(self.rt, name), &mut self.faults)?;
         tell(self.alloc, &mut self.told, name, length.is_some())?;
         Ok(length)
     }
@@ -391,7 +391,7 @@ impl<R: Files> FileShelf<'_, R> {
         ensures causes { Causes OutsideErr.Failed result self.old.faults self.new.faults }
         ensures wants { self.new.wants ≡ self.old.wants }
     {
-        match self.opened(name)? {
+        match self.open_named(name)? {
             None => Ok(0),
             Some(place) => {
                 let count = self.kept[place].read(at, into, &mut self.faults)?;
@@ -412,11 +412,11 @@ fn place_under<F>(kept: &[KeptFile<F>], name: &str) -> Option<usize>
 }
 
 /// A file that may not be written is a fault.
-fn refused<T>(faults: &mut FaultCount) -> Result<T, OutsideErr>
+fn refuse_write<T>(faults: &mut FaultCount) -> Result<T, OutsideErr>
     ensures fault { result ≡ Err OutsideErr.Failed }
     ensures causes { Causes OutsideErr.Failed result faults.old faults.new }
 {
-    counted(Err(io::Error::from(ErrorKind::PermissionDenied)), faults)
+    count_fault(Err(io::Error::from(ErrorKind::PermissionDenied)), faults)
 }
 
 impl<R: Files> Shelf for FileShelf<'_, R> {
@@ -432,21 +432,21 @@ impl<R: Files> Shelf for FileShelf<'_, R> {
 
     fn length(&mut self, name: &str) -> Result<Option<u64>, OutsideErr> {
         let length = self.tell_length(name);
-        self.noted(name, length)
+        self.note_fault(name, length)
     }
 
     fn read_at(&mut self, name: &str, at: u64, into: &mut [u8]) -> Result<usize, OutsideErr> {
         let answer = self.read_part(name, at, into);
-        self.noted(name, answer)
+        self.note_fault(name, answer)
     }
 
     fn create(&mut self, name: &str) -> Result<(), OutsideErr> {
         let answer = self.begin(name);
-        self.noted(name, answer)
+        self.note_fault(name, answer)
     }
 
     fn append(&mut self, name: &str, piece: &[u8]) -> Result<(), OutsideErr> {
         let answer = self.add(name, piece);
-        self.noted(name, answer)
+        self.note_fault(name, answer)
     }
 }

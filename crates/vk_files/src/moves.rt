@@ -6,7 +6,7 @@ ghost use Rattle.vk_files.specs.Counting.{CountsOnce};
 ghost use Rattle.vk_files.specs.Moves.{GivesFrom};
 
 use crate::faults::FaultCount;
-use crate::outcome::counted;
+use crate::outcome::count_fault;
 use crate::pieces::read_fully;
 use std::io;
 use std::io::{Read, Seek, SeekFrom, Write};
@@ -21,7 +21,7 @@ pub fn put_counted<W: Write>(
     ensures put { OnOk result (Appends (W.contents writer.old) (W.contents writer.new) piece.now) }
     ensures counted { CountsOnce result faults.old faults.new }
 {
-    counted(writer.write_all(piece), faults)?;
+    count_fault(writer.write_all(piece), faults)?;
     Ok(())
 }
 

@@ -18,7 +18,7 @@ use std::{fs, io};
 const OWNER_ALONE: u32 = 0o600;
 
 /// What is there. None where nothing is at the path, or a part of it is no folder.
-pub fn found<T>(outcome: io::Result<T>) -> io::Result<Option<T>>
+pub fn none_where_absent<T>(outcome: io::Result<T>) -> io::Result<Option<T>>
     ensures there { IfOk outcome (λ there. result ≡ Ok (Some there)) }
     ensures missing { IfErr outcome (λ error. IsMissing error → result ≡ Ok None) }
     ensures error { IfErr outcome (λ error. ¬ (IsMissing error) → result ≡ Err error) }
@@ -47,7 +47,7 @@ fn length_seen(looked: io::Result<Metadata>) -> io::Result<Option<u64>>
     ensures missing { IfErr looked (λ error. IsMissing error → result ≡ Ok None) }
     ensures error { IfErr looked (λ error. ¬ (IsMissing error) → result ≡ Err error) }
 {
-    match found(looked)? {
+    match none_where_absent(looked)? {
         Some(metadata) => {
             let length = file_length(&metadata)?;
             Ok(Some(length))
@@ -63,7 +63,7 @@ pub fn length_of<R: Files>(rt: &R, path: &str) -> io::Result<Option<u64>> {
 
 /// Which file or folder is at the path. None where nothing is there, or where it can't be told.
 pub fn id_at<R: Files>(rt: &R, path: &str) -> io::Result<Option<FileId>> {
-    match found(fs::metadata(rt, path))? {
+    match none_where_absent(fs::metadata(rt, path))? {
         Some(metadata) => Ok(FileId::of(&metadata)),
         None => Ok(None),
     }
@@ -87,7 +87,7 @@ fn still_there<T>(file: Option<T>, was_there: bool) -> io::Result<Option<T>>
 /// at and not opened, since a pipe would wait for somebody who writes it.
 fn find_to_read<R: Files>(rt: &R, path: &str) -> io::Result<Option<R::File>> {
     match length_of(rt, path)? {
-        Some(_length) => found(fs::open(rt, path)),
+        Some(_length) => none_where_absent(fs::open(rt, path)),
         None => Ok(None),
     }
 }
@@ -113,10 +113,10 @@ fn to_write(at_end: bool) -> OpenOptions
 /// The file at the path as it is, opened to be written. None where nothing is there. What may not
 /// be written is looked at and not opened, since a pipe would wait for somebody who reads it.
 pub fn open_to_write<R: Files>(rt: &R, path: &str, at_end: bool) -> io::Result<Option<R::File>> {
-    match found(fs::metadata(rt, path))? {
+    match none_where_absent(fs::metadata(rt, path))? {
         Some(metadata) => {
             admit_to_write(Kind::of(&metadata))?;
-            found(to_write(at_end).open(rt, path))
+            none_where_absent(to_write(at_end).open(rt, path))
         }
         None => Ok(None),
     }
@@ -140,7 +140,7 @@ fn to_make(at_end: bool) -> OpenOptions
 
 /// What a sync comes to. One that the system refuses since what was written has no place is done:
 /// such a file is as good as its last write. Any other error is one.
-fn settled(synced: io::Result<()>) -> io::Result<()>
+fn settle_sync(synced: io::Result<()>) -> io::Result<()>
     ensures synced { IfOk synced (λ done. result ≡ Ok done) }
     ensures no_place { IfErr synced (λ error. HasNoPlace error → IsOk result) }
     ensures error { IfErr synced (λ error. ¬ (HasNoPlace error) → result ≡ Err error) }
@@ -159,6 +159,6 @@ fn has_no_place(error: &io::Error) -> bool
 }
 
 /// Waits until what was written is where it belongs.
-pub fn synced<F: OpenFile>(file: &F) -> io::Result<()> {
-    settled(file.sync_data())
+pub fn sync_written<F: OpenFile>(file: &F) -> io::Result<()> {
+    settle_sync(file.sync_data())
 }

@@ -7,7 +7,7 @@ use std::io;
 use vk_io::OutsideErr;
 
 /// What an outcome of the system is to its caller: an error is counted, and nothing else is.
-pub fn counted<T>(outcome: io::Result<T>, faults: &mut FaultCount) -> Result<T, OutsideErr>
+pub fn count_fault<T>(outcome: io::Result<T>, faults: &mut FaultCount) -> Result<T, OutsideErr>
     ensures value { IfOk outcome (λ value. result ≡ Ok value) }
     ensures fault { OnErr outcome (result ≡ Err OutsideErr.Failed) }
     ensures counted { CountsOnce result faults.old faults.new }

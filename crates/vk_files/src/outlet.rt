@@ -8,7 +8,7 @@ ghost use Rattle.vk_files.specs.Counting.{CountsOnce};
 ghost use Rattle.vk_files.specs.Outlets.{TakesSome};
 
 use crate::faults::FaultCount;
-use crate::outcome::counted;
+use crate::outcome::count_fault;
 use std::io;
 use std::io::ErrorKind;
 use vk_io::OutsideErr;
@@ -78,5 +78,5 @@ pub fn put_counted<O: Outlet>(
     ensures counted { CountsOnce result faults.old faults.new }
 {
     let taken = take_whole(outlet, piece);
-    counted(taken, faults)
+    count_fault(taken, faults)
 }

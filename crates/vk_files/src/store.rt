@@ -3,8 +3,8 @@ ghost use Rattle.vk_io.specs.Faults.{Causes};
 
 use crate::faults::FaultCount;
 use crate::file_id::{FileId, are_same};
-use crate::opening::{found, id_at};
-use crate::outcome::counted;
+use crate::opening::{none_where_absent, id_at};
+use crate::outcome::count_fault;
 use crate::store_names::{folder_of, shares_store_name, store_files};
 use std::alloc::Global;
 use std::io::ErrorKind;
@@ -68,7 +68,7 @@ impl<R: Files> Store<'_, R> {
     {
         let paths = store_files(self.alloc, store)?;
         for path in &paths {
-            if let Some(id) = counted(id_at(self.rt, path.as_str()), faults)? {
+            if let Some(id) = count_fault(id_at(self.rt, path.as_str()), faults)? {
                 ids.push(id).map_err(NoMemory::from)?;
             }
         }
@@ -87,8 +87,8 @@ impl<R: Files> Store<'_, R> {
         if !shares_store_name(path, store) {
             return Ok(false);
         }
-        let folder = counted(id_at(self.rt, folder_of(path)), faults)?;
-        let home = counted(id_at(self.rt, folder_of(store)), faults)?;
+        let folder = count_fault(id_at(self.rt, folder_of(path)), faults)?;
+        let home = count_fault(id_at(self.rt, folder_of(store)), faults)?;
         Ok(are_same(folder, home))
     }
 
@@ -96,11 +96,11 @@ impl<R: Files> Store<'_, R> {
     fn real_path(&self, faults: &mut FaultCount) -> Result<Option<String>, OutsideErr>
         ensures causes { Causes OutsideErr.Failed result faults.old faults.new }
     {
-        match found(self.rt.canonicalize(self.alloc, self.path)) {
+        match none_where_absent(self.rt.canonicalize(self.alloc, self.path)) {
             Ok(Some(path)) => Ok(Some(path.into_string())),
             Ok(None) => Ok(None),
             Err(error) if error.kind() == ErrorKind::OutOfMemory => Err(OutsideErr::NoMemory),
-            Err(error) => counted(Err(error), faults),
+            Err(error) => count_fault(Err(error), faults),
         }
     }
 }

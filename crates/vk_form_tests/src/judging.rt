@@ -19,7 +19,7 @@ use vk_board::{SealLines, read_seal_lines};
 use vk_io::{OutsideErr, Shelf};
 use vk_judge::{
     Fault, Halt, OneReply, Opened, Part, Refusal, Statement, TwoReplies, VErr, in_part, judge_file,
-    known,
+    refusal_as_value,
 };
 use vk_lines::Lines;
 use vk_plan::Circuit;
@@ -74,7 +74,7 @@ pub fn open<S: Shelf>(
     ensures right { IfOk result (λ opened. IfOk opened (IsSum IsSumHead)) }
     ensures shelf { OnlyReads S.held S.Shelf.faults OutsideErr.Failed result shelf.old shelf.new }
 {
-    match known(read_sum(alloc, shelf, lines))? {
+    match refusal_as_value(read_sum(alloc, shelf, lines))? {
         Err(fault) => Ok(Err(Refusal::Fault(fault))),
         Ok(opened) => Ok(Ok(opened)),
     }

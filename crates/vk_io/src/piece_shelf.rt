@@ -49,7 +49,7 @@ impl PieceShelf {
     }
 
     /// The answer of the shelf under it. A fault is counted here too.
-    fn passed<T>(&mut self, answer: Result<T, OutsideErr>) -> Result<T, OutsideErr>
+    fn pass_on<T>(&mut self, answer: Result<T, OutsideErr>) -> Result<T, OutsideErr>
         ensures same { result ≡ answer }
         ensures inner { self.new.inner ≡ self.old.inner }
         ensures causes { Causes OutsideErr.Failed result self.old.faults self.new.faults }
@@ -83,7 +83,7 @@ impl Shelf for PieceShelf {
             self.new.inner.wants }
     {
         let answer = self.inner.length(name);
-        self.passed(answer)
+        self.pass_on(answer)
     }
 
     fn read_at(&mut self, name: &str, at: u64, into: &mut [u8]) -> Result<usize, OutsideErr>
@@ -107,7 +107,7 @@ impl Shelf for PieceShelf {
             return Err(self.fault());
         }
         let answer = self.inner.read_at(name, at, into);
-        self.passed(answer)
+        self.pass_on(answer)
     }
 
     fn create(&mut self, name: &str) -> Result<(), OutsideErr>
@@ -119,7 +119,7 @@ impl Shelf for PieceShelf {
             self.new.inner.wants }
     {
         let answer = self.inner.create(name);
-        self.passed(answer)
+        self.pass_on(answer)
     }
 
     fn append(&mut self, name: &str, piece: &[u8]) -> Result<(), OutsideErr>
@@ -136,6 +136,6 @@ impl Shelf for PieceShelf {
             return Err(self.fault());
         }
         let answer = self.inner.append(name, piece);
-        self.passed(answer)
+        self.pass_on(answer)
     }
 }

@@ -9,7 +9,7 @@ ghost use Rattle.vk_judge.specs.Wanting.{MemoryWasWanting};
 ghost use Rattle.vk_judge.specs.Opened.{GivesNext, HasOpened, IsCheckedOver, checked_base, checked_finding, checked_given, coming_of, coming_past, in_file, judged_past, opened_in};
 
 use crate::answers::Fault;
-use crate::halt::known;
+use crate::halt::refusal_as_value;
 use crate::judging::judge_behind;
 use crate::opened::{Opened, Refusal};
 use crate::stage::{Attempt, Finding, Stage, TwoAttempts, TwoLane};
@@ -36,7 +36,7 @@ pub fn judge_file<S: Shelf, H: Drop, R: Copy>(
     match opened {
         Err(refusal) => Ok(Err(refusal)),
         Ok(opened) => {
-            let judged = known(judge_behind(alloc, shelf, &opened.statement, attempt))?;
+            let judged = refusal_as_value(judge_behind(alloc, shelf, &opened.statement, attempt))?;
             Ok(in_file(judged))
         }
     }

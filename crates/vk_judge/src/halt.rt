@@ -48,7 +48,7 @@ pub fn in_part<X>(part: Part, read: Result<X, ReadErr>) -> Result<X, Halt<Fault>
 }
 
 /// What was come to, where a refusal is one of the values.
-pub fn known<X, V>(judged: Result<X, Halt<V>>) -> Result<Result<X, V>, OutsideErr>
+pub fn refusal_as_value<X, V>(judged: Result<X, Halt<V>>) -> Result<Result<X, V>, OutsideErr>
     ensures exact { result ≡ known_answer judged }
     ensures read { (rest : Rest) (expected : Result (X × Rest) V)
         → Judges (λ x. (x, rest)) judged expected

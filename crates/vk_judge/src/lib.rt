@@ -19,7 +19,7 @@ mod two_laws;
 
 pub use answers::{Fault, Part, VErr};
 pub use checker::{Checker, judge_file};
-pub use halt::{Halt, in_part, known};
+pub use halt::{Halt, in_part, refusal_as_value};
 pub use judging::judge_behind;
 pub use laws::what_is_judged_behind_a_front_is_exact;
 pub use named::{OneReply, TwoReplies};

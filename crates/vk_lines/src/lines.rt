@@ -129,7 +129,7 @@ impl Lines {
             (S.Shelf.wants shelf.new) }
     {
         let at = self.unread();
-        let left = self.left();
+        let left = self.bytes_left();
         self.buffer.read_on(shelf, &self.name, at, left)?;
         Ok(())
     }
@@ -142,7 +142,7 @@ impl Lines {
     }
 
     /// How many bytes were not yet read.
-    fn left(&self) -> u64
+    fn bytes_left(&self) -> u64
         ensures { result ≡ self.now.size - unread self.now }
     {
         self.size - self.unread()
@@ -215,7 +215,7 @@ impl Lines {
 
     /// The value of the line last taken; Malformed, with its number, where it has none.
     #[tactic(auto, unfolding(crate::specs::Lines::rest_of, crate::specs::Lines::rest_in))]
-    pub fn found<X>(&self, value: Option<X>) -> Result<X, ReadErr>
+    pub fn require<X>(&self, value: Option<X>) -> Result<X, ReadErr>
         ensures exact { result ≡ ok_or value (ReadErr.Malformed self.now.taken) }
         ensures modelled { (files : Files)
             → GivesReading (λ x. x) result (rest_of self.now files)
@@ -232,7 +232,7 @@ impl Lines {
             self.old self.new shelf.old shelf.new result }
     {
         self.read_text(shelf)?;
-        self.found(read_word(self.text(), b"end"))?;
+        self.require(read_word(self.text(), b"end"))?;
         let before = self.number();
         let step = self.next_line(shelf)?;
         let ended = nothing_left(step, before);
@@ -246,7 +246,7 @@ impl Lines {
             self.old self.new shelf.old shelf.new result }
     {
         self.read_text(shelf)?;
-        let value = self.found(read_word(self.text(), line));
+        let value = self.require(read_word(self.text(), line));
         value
     }
 
@@ -265,7 +265,7 @@ impl Lines {
         ensures within { IfOk result (λ number. (least ≤ number) × (number ≤ most)) }
     {
         self.read_text(shelf)?;
-        let value = self.found(read_number(self.text(), word, least, most));
+        let value = self.require(read_number(self.text(), word, least, most));
         value
     }
 
@@ -278,7 +278,7 @@ impl Lines {
         ensures bytes { IfOk result (λ id. (length id ≡ 16) × IsBytes id) }
     {
         self.read_text(shelf)?;
-        let value = self.found(read_id(self.text(), word));
+        let value = self.require(read_id(self.text(), word));
         value
     }
 

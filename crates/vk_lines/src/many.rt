@@ -75,6 +75,6 @@ pub fn read_item<S: Shelf, K: LineKind>(
     ensures right { IfOk result (K.is_item kind.now number) }
 {
     lines.read_text(shelf)?;
-    let item = lines.found(kind.read(number, lines.text()));
+    let item = lines.require(kind.read(number, lines.text()));
     item
 }

@@ -69,12 +69,12 @@ impl EitherAtLeast {
         ensures { IfOk result (λ ranges. ranges ≡ paired_ranges self.now pair) }
     {
         let more = Residue::pow2(self.width);
-        let mut first = shifted(alloc, self.first_left, self.first_right, more)?;
+        let mut first = shifted_difference(alloc, self.first_left, self.first_right, more)?;
         first.terms.push(Term {
             wire: pair,
             factor: more.neg(),
         })?;
-        let mut second = shifted(alloc, self.second_left, self.second_right, Residue::ZERO)?;
+        let mut second = shifted_difference(alloc, self.second_left, self.second_right, Residue::ZERO)?;
         second.terms.push(Term {
             wire: pair,
             factor: more,
@@ -94,8 +94,8 @@ impl EitherAtLeast {
         } else {
             (more, Residue::ZERO)
         };
-        let first = shifted(alloc, self.first_left, self.first_right, of_first)?;
-        let second = shifted(alloc, self.second_left, self.second_right, of_second)?;
+        let first = shifted_difference(alloc, self.first_left, self.first_right, of_first)?;
+        let second = shifted_difference(alloc, self.second_left, self.second_right, of_second)?;
         let ranges = both(alloc, first, second, self.width + 1)?;
         Ok(ranges)
     }
@@ -135,7 +135,7 @@ fn both(alloc: Global, first: Form, second: Form, width: u32) -> Result<Ranges, 
 }
 
 /// Left less right, and a constant.
-fn shifted(alloc: Global, left: u32, right: u32, constant: Residue) -> Result<Form, NoMemory>
+fn shifted_difference(alloc: Global, left: u32, right: u32, constant: Residue) -> Result<Form, NoMemory>
     ensures { IfOk result (λ form. form ≡ shifted_form left right constant) }
 {
     let mut form = difference(alloc, left, right, false)?;

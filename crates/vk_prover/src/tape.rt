@@ -80,7 +80,7 @@ pub fn draw_wires<W: Words>(
     ensures tapes { IfOk result (λ tape. All IsTape tape.wires) }
     ensures memory { IsErrOf result DrawErr.NoMemory → W.ahead words.new ≡ W.ahead words.old }
 {
-    let wires = copied(alloc, given, given.len() as u32 + further)?;
+    let wires = copy_tapes(alloc, given, given.len() as u32 + further)?;
     let wires = draw_onto(wires, further, &WireDraw, words)?;
     Ok(LaneTape {
         wires: Seq::from_vec(wires),
@@ -129,7 +129,7 @@ impl Draw for WireDraw {
 }
 
 /// The tapes, with room for so many wires.
-fn copied(alloc: Global, given: &[WireTape], count: u32) -> Result<Vec<WireTape>, NoMemory>
+fn copy_tapes(alloc: Global, given: &[WireTape], count: u32) -> Result<Vec<WireTape>, NoMemory>
     ensures same { IfOk result (λ wires. wires.items ≡ given.now) }
     ensures tapes { IfOk result (λ wires. All IsTape wires.items) }
     ensures room { IfOk result (λ wires. count ≤ vec_capacity wires) }

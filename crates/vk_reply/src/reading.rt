@@ -77,7 +77,7 @@ fn read_bits<S: Shelf>(
 {
     lines.read_text(shelf)?;
     let value = bits_line(alloc, lines.text())?;
-    let bits = lines.found(value);
+    let bits = lines.require(value);
     bits
 }
 

@@ -16,12 +16,12 @@ pub fn report_text(alloc: Global, report: &Report) -> Result<Vec<u8>, NoMemory>
     ensures { IfOk result (λ text. text.items ≡ report_text report.now) }
 {
     let lines = report_lines(alloc, report)?;
-    let text = joined(alloc, lines.as_slice())?;
+    let text = join_lines(alloc, lines.as_slice())?;
     Ok(text)
 }
 
 /// The lines one after another.
-fn joined(alloc: Global, lines: &[String]) -> Result<Vec<u8>, NoMemory>
+fn join_lines(alloc: Global, lines: &[String]) -> Result<Vec<u8>, NoMemory>
     ensures { IfOk result (λ text. text.items ≡ flat_map string_bytes lines.now) }
 {
     let mut text = Vec::new(alloc);

@@ -67,7 +67,7 @@ pub fn sample<S: Shelf>(alloc: Global, shelf: &mut S, number: u64) -> Result<Sai
             said
         }
         Err(dry) => {
-            let said = dry.said()?;
+            let said = dry.say()?;
             Ok(said)
         }
     }

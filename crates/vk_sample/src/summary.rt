@@ -13,7 +13,7 @@ ghost use Rattle.vk_sample.specs.Texts.{counts_text, made_text, opened_said, rea
 
 use crate::files::sample_names;
 use std::alloc::Global;
-use vk_audit::{extracted, replies_of, unread};
+use vk_audit::{say_extraction, replies_of, unread};
 use vk_bids::{Extracted, Extraction, extract, sale_line};
 use vk_board::Head;
 use vk_effect::Said;
@@ -114,7 +114,7 @@ fn bids_lines(alloc: Global, made: Vec<String>, found: &Extracted) -> Result<Vec
 
 /// What is said of what the replies come to as they were read back. A clash takes no memory.
 #[tactic(auto, using(vk_judge::specs::Wanting::memory_was_wanting))]
-fn opened(alloc: Global, made: Vec<String>, extraction: &Extraction) -> Result<Said, NoMemory>
+fn say_read_back(alloc: Global, made: Vec<String>, extraction: &Extraction) -> Result<Said, NoMemory>
     ensures said { IfOk result
         (λ said. said ≡ opened_said (flat_map string_bytes made.items) extraction.now) }
     ensures clash { (two : TwoOpeningsSeen) → extraction.now ≡ Extraction.Clash two
@@ -122,7 +122,7 @@ fn opened(alloc: Global, made: Vec<String>, extraction: &Extraction) -> Result<S
     ensures wanting { IsErr result → MemoryWasWanting }
 {
     let Extraction::Bids(found) = extraction else {
-        let said = extracted(alloc, &sample_names(), extraction)?;
+        let said = say_extraction(alloc, &sample_names(), extraction)?;
         return Ok(said);
     };
     let lines = bids_lines(alloc, made, found)?;
@@ -143,7 +143,7 @@ pub fn read_back<S: Shelf>(
 {
     let names = sample_names();
     let said = match extract(alloc, shelf, &replies_of(&names)) {
-        Ok(extraction) => opened(alloc, made, &extraction)?,
+        Ok(extraction) => say_read_back(alloc, made, &extraction)?,
         Err(fault) => unread(alloc, &names, fault)?,
     };
     Ok(said)

@@ -56,7 +56,7 @@ impl From<JobErr> for SampleErr {
 impl SampleErr {
     /// What is said of a seed that is dry. Takes no memory, and errs exactly where that was wanted
     /// before.
-    pub fn said(self) -> Result<Said, NoMemory>
+    pub fn say(self) -> Result<Said, NoMemory>
         ensures said { IfSome (dry_of self) (λ dry. result ≡ Ok (dry_said dry)) }
         ensures dry { OnOk result (IsSome (dry_of self)) }
         ensures memory { IsErr result → self ≡ SampleErr.NoMemory }

@@ -14,7 +14,7 @@ use crate::answers::{BoardRefusal, BoardVerdict, verdict_by};
 use std::alloc::Global;
 use vk_board::{Front, FrontErr, Head, read_front};
 use vk_io::{OutsideErr, Shelf};
-use vk_judge::{Fault, Halt, OneReply, Opened, Part, Refusal, Statement, VErr, judge_file, known};
+use vk_judge::{Fault, Halt, OneReply, Opened, Part, Refusal, Statement, VErr, judge_file, refusal_as_value};
 use vk_lines::{Lines, ReadErr};
 use vk_plan::{Circuit, Plan};
 use vk_residue::NoMemory;
@@ -101,7 +101,7 @@ pub fn open_board<S: Shelf>(
     ensures shelf { OnlyReads S.held S.Shelf.faults OutsideErr.Failed result shelf.old shelf.new }
 {
     let read = in_front(read_front(alloc, shelf, lines));
-    match known(read)? {
+    match refusal_as_value(read)? {
         Err(refusal) => Ok(Err(refusal)),
         Ok(front) => {
             let opened = opened_board(alloc, front)?;

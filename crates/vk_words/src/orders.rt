@@ -113,7 +113,7 @@ pub fn seal_order(words: &[String]) -> Option<SealOrder<'_>>
 }
 
 /// The order of an `announce`, which has a reserve where there is a word more.
-fn announced(id: [u8; 16], width: u32, lanes: u32, words: &[String]) -> Option<HouseOrder<'_>>
+fn announce_order(id: [u8; 16], width: u32, lanes: u32, words: &[String]) -> Option<HouseOrder<'_>>
     requires { IsSize width lanes }
     ensures value { option_map house_seen result
         ≡ announced_on id width lanes (map string_bytes words.now) }
@@ -141,7 +141,7 @@ pub fn house_order(verb: Verb, words: &[String]) -> Option<HouseOrder<'_>>
         Verb::Announce => {
             let width = count(word(words, 2), 40)? as u32;
             let lanes = count(word(words, 3), 64)? as u32;
-            let order = announced(id, width, lanes, words);
+            let order = announce_order(id, width, lanes, words);
             order
         }
         Verb::Submit => {

@@ -14,7 +14,7 @@ returns-in_err-said g c =
     let held = g.S.Shelf.held c.args.shelf.now in
     rw (p.1 ∙ ap Err p.2) (record {
       acts = λ ledger. deed_acts (Some (made_deed order (seal_made order))) c.in_ok-deed.deed held
-          held (g.S.Shelf.held c.done.new.shelf) ledger (Err c.in_err-said.field-0.0) refl c.in_ok-deed.ensures
+          held (g.S.Shelf.held c.carry_out.new.shelf) ledger (Err c.in_err-said.field-0.0) refl c.in_ok-deed.ensures
           (c.in_err-said.ensures.acts ledger);
       causes = c.in_err-said.ensures.causes;
     })
@@ -26,7 +26,7 @@ returns g c =
     let held = g.S.Shelf.held c.args.shelf.now in
     record {
       acts = λ ledger. deed_acts (Some (made_deed order (seal_made order))) c.in_ok-deed.deed held
-          held (g.S.Shelf.held c.done.new.shelf) ledger (Ok c.in_ok-said.said) refl
+          held (g.S.Shelf.held c.carry_out.new.shelf) ledger (Ok c.in_ok-said.said) refl
           c.in_ok-deed.ensures (c.in_ok-said.ensures.acts ledger);
       causes = c.in_ok-said.ensures.causes;
     }

@@ -10,9 +10,9 @@ pub returns-clause-acts : goal.returns-clause-acts
 returns-clause-acts g c =
     let challenge = c.args.challenge.now in
     asked_acts (reply_file c.args.reply.now challenge) (Answer c.args.id.now challenge)
-    (as_reply work_of c.answer-answer.result) _ _ _ _ c.answered-said.result (λ _. refl)
+    (as_reply work_of c.answer-answer.result) _ _ _ _ c.say_answered-said.result (λ _. refl)
     (search rules)
-    (c.answered-said.ensures.said c.args.id.now) c.answered-said.ensures.written
+    (c.say_answered-said.ensures.said c.args.id.now) c.say_answered-said.ensures.written
 
 pub returns-clause-once : goal.returns-clause-once
 returns-clause-once g c =
@@ -22,7 +22,7 @@ returns-clause-once g c =
 pub returns-clause-files : goal.returns-clause-files
 returns-clause-files g c = λ name.
     reply_left c.args.id.now name c.args.reply.now c.args.challenge.now c.answer-answer.result
-    c.answered-said.result (g.S.Shelf.held c.args.shelf.now)
-    (g.S.Shelf.held c.answered-said.new.shelf)
-    (c.answered-said.ensures.said c.args.id.now) c.answered-said.ensures.written
-    c.answer-answer.ensures.id c.answer-answer.ensures.answered c.answered-said.ensures.proved
+    c.say_answered-said.result (g.S.Shelf.held c.args.shelf.now)
+    (g.S.Shelf.held c.say_answered-said.new.shelf)
+    (c.say_answered-said.ensures.said c.args.id.now) c.say_answered-said.ensures.written
+    c.answer-answer.ensures.id c.answer-answer.ensures.answered c.say_answered-said.ensures.proved

@@ -9,9 +9,9 @@ use Rattle.vk_auctioneer.proofs.publishing.prove.Goals as goal
 pub returns-clause-acts : goal.returns-clause-acts
 returns-clause-acts g c =
     asked_acts (board_file c.args.board.now) (Prove c.args.id.now c.args.seed.now)
-    (as_reply work_of c.prove.result) _ _ _ _ c.proved-said.result (λ _. refl)
+    (as_reply work_of c.prove.result) _ _ _ _ c.say_proved-said.result (λ _. refl)
     (search rules)
-    (c.proved-said.ensures.said c.args.id.now c.args.seed.now) c.proved-said.ensures.written
+    (c.say_proved-said.ensures.said c.args.id.now c.args.seed.now) c.say_proved-said.ensures.written
 
 pub returns-clause-once : goal.returns-clause-once
 returns-clause-once g c =
@@ -21,7 +21,7 @@ returns-clause-once g c =
 pub returns-clause-files : goal.returns-clause-files
 returns-clause-files g c =
     board_left c.args.id.now c.args.seed.now c.args.board.now c.prove.result
-    c.proved-said.result (g.S.Shelf.held c.args.shelf.now)
-    (g.S.Shelf.held c.proved-said.new.shelf)
-    (c.proved-said.ensures.said c.args.id.now c.args.seed.now) c.proved-said.ensures.written
-    c.prove.ensures.id c.prove.ensures.seed c.proved-said.ensures.proved
+    c.say_proved-said.result (g.S.Shelf.held c.args.shelf.now)
+    (g.S.Shelf.held c.say_proved-said.new.shelf)
+    (c.say_proved-said.ensures.said c.args.id.now c.args.seed.now) c.say_proved-said.ensures.written
+    c.prove.ensures.id c.prove.ensures.seed c.say_proved-said.ensures.proved

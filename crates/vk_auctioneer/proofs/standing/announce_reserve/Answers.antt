@@ -8,6 +8,6 @@ pub returns : goal.returns
 returns g c =
     asks_alone g.K.Keeper.get_gives
     (AnnounceReserve c.args.id.now c.args.width c.args.lanes c.args.reserve) (λ _. Done)
-    c.announce_reserve-answer.result c.announced-said.result (search rules)
-    (c.announced-said.ensures.reserved c.args.width c.args.lanes c.args.reserve)
-    (c.announced-said.ensures.causes _ _)
+    c.announce_reserve-answer.result c.say_announced-said.result (search rules)
+    (c.say_announced-said.ensures.reserved c.args.width c.args.lanes c.args.reserve)
+    (c.say_announced-said.ensures.causes _ _)

@@ -7,4 +7,4 @@ use Rattle.vk_auctioneer.proofs.standing.show.Goals as goal
 pub returns : goal.returns
 returns g c =
     asks_alone g.K.Keeper.get_gives (Show c.args.id.now) Stands c.show-answer.result
-    c.shown-said.result (search rules) c.shown-said.ensures.said (c.shown-said.ensures.causes _ _)
+    c.say_standing-said.result (search rules) c.say_standing-said.ensures.said (c.say_standing-said.ensures.causes _ _)

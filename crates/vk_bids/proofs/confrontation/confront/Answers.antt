@@ -55,6 +55,6 @@ returns-clause-modelled g c =
     (c.in_ok-extraction.ensures.shelf.held ∙ on_secret)
     (λ files are reads. confronted files replies.file.now replies.challenge1.now replies.reply1.now
     replies.challenge2.now replies.reply2.now names.secret.now extraction (rest_of lines files)
-    c.in_ok-secret.secret c.confronted-confrontation.result are.0 are.1 reads
-    c.confronted-confrontation.ensures)
+    c.in_ok-secret.secret c.compare_secret-confrontation.result are.0 are.1 reads
+    c.compare_secret-confrontation.ensures)
     both c.in_ok-secret.ensures.modelled

@@ -8,5 +8,5 @@ returns-clause-modelled g c =
     let end = c.in_ok-checker.checker in
     IfSome_then (g.S.Shelf.held c.args.shelf.now) c.in_ok-checker.ensures.modelled
     (λ files comes. concluded c.args.checker files (checked_base end) (checked_finding end)
-    c.in_ok-checker.gathered c.concluded-found.result c.in_ok-checker.ensures.base comes
-    c.concluded-found.ensures.value)
+    c.in_ok-checker.gathered c.conclude-found.result c.in_ok-checker.ensures.base comes
+    c.conclude-found.ensures.value)

@@ -12,7 +12,7 @@ returns-in_err-said-clause-acts g c =
     let held = g.S.Shelf.held c.args.shelf.now in
     rw p.1
     (λ ledger. deed_acts (deed_on held (coin_seen c.args.order.now)) c.in_ok-deed.deed held
-    (g.S.Shelf.held c.deed.new.shelf) (g.S.Shelf.held c.done.new.shelf) ledger (Err p.0)
+    (g.S.Shelf.held c.deed.new.shelf) (g.S.Shelf.held c.carry_out.new.shelf) ledger (Err p.0)
     c.in_ok-deed.ensures.shelf.held
     c.in_ok-deed.ensures.modelled (c.in_err-said.ensures.acts ledger))
 
@@ -20,6 +20,6 @@ pub returns-clause-acts : goal.returns-clause-acts
 returns-clause-acts g c = λ ledger.
     let held = g.S.Shelf.held c.args.shelf.now in
     deed_acts (deed_on held (coin_seen c.args.order.now)) c.in_ok-deed.deed held
-    (g.S.Shelf.held c.deed.new.shelf) (g.S.Shelf.held c.done.new.shelf) ledger
+    (g.S.Shelf.held c.deed.new.shelf) (g.S.Shelf.held c.carry_out.new.shelf) ledger
     (Ok c.in_ok-said.said) c.in_ok-deed.ensures.shelf.held
     c.in_ok-deed.ensures.modelled (c.in_ok-said.ensures.acts ledger)

@@ -1,7 +1,7 @@
 use Rattle.std.proofs.Common.{◌≡◌, ◌≤◌, All, take}
 use Rattle.std.specs.Prelude.{vec_capacity}
 use Rattle.vk_wire.specs.Values.{IsTape}
-use Rattle.vk_prover.proofs.tape.copied.Given as goal
+use Rattle.vk_prover.proofs.tape.copy_tapes.Given as goal
 
 -- the tapes so far
 abbrev pub invariant-loop-tape : goal.invariant-loop-tape

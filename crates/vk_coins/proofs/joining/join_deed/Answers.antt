@@ -2,7 +2,7 @@ use Rattle.std.proofs.Common.{Err, sym, ap, ◌∙◌}
 use Rattle.vk_words.specs.Coins.{challenge_seen}
 use Rattle.vk_effect.specs.Effects.{only_says}
 use Rattle.vk_coins.specs.Joining.{joined_if}
-use Rattle.vk_coins.proofs.joining.joined.Goals as goal
+use Rattle.vk_coins.proofs.joining.join_deed.Goals as goal
 
 pub returns-in_ok-said-in-Err-Part : goal.returns-in_ok-said-in-Err-Part
 returns-in_ok-said-in-Err-Part c =

@@ -2,7 +2,7 @@ use Rattle.std.proofs.Common.{ap, ◌∙◌}
 use Rattle.vk_coin.specs.Shares.{drawn_share}
 use Rattle.vk_dice.specs.Stream.{word_at}
 use Rattle.vk_coins.specs.Drawing.{auditor_stream, share_of}
-use Rattle.vk_coins.proofs.drawing.drawn.Goals as goal
+use Rattle.vk_coins.proofs.drawing.draw_part.Goals as goal
 
 pub returns-clause-share : goal.returns-clause-share
 unfolding share_of

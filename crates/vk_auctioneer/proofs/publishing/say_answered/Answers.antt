@@ -1,5 +1,5 @@
 use Rattle.vk_auctioneer.proofs.Counting.{refusal_causes}
-use Rattle.vk_auctioneer.proofs.publishing.answered.Goals as goal
+use Rattle.vk_auctioneer.proofs.publishing.say_answered.Goals as goal
 
 pub returns-in-Err-clause-causes : goal.returns-in-Err-clause-causes
 returns-in-Err-clause-causes g c = λ before after.

@@ -1,5 +1,5 @@
 use Rattle.std.proofs.Common.{◌≡◌, ◌++◌, take}
-use Rattle.vk_claims.proofs.numbers.listed.Given as goal
+use Rattle.vk_claims.proofs.numbers.list_numbers.Given as goal
 
 -- the numbers so far are the front and the persons so far
 abbrev pub invariant-loop-person : goal.invariant-loop-person

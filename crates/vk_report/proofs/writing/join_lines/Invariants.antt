@@ -1,5 +1,5 @@
 use Rattle.std.proofs.Common.{◌≡◌, take, flat_map, string_bytes}
-use Rattle.vk_report.proofs.writing.joined.Given as goal
+use Rattle.vk_report.proofs.writing.join_lines.Given as goal
 
 -- the text so far is that of the lines so far
 abbrev pub invariant-loop-line : goal.invariant-loop-line
