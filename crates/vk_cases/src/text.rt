@@ -1,7 +1,6 @@
 // What comes of a case, as it is written.
 use crate::unreplayed::{Tried, Unreplayed};
 use std::alloc::Global;
-use vk_io::Sink;
 use vk_lines::{push_decimal, push_hex};
 
 /// Bytes that are appended to, and whether there was memory for all of them, which is answered once
@@ -47,20 +46,6 @@ impl Text {
         }
     }
 
-    /// Appends a word and its number, each behind a space.
-    pub fn put_count(&mut self, word: &[u8], number: u64) {
-        self.put(b" ");
-        self.put(word);
-        self.put_number(b" ", number);
-    }
-
-    /// Appends a line of a word and its number.
-    pub fn put_number_line(&mut self, word: &[u8], number: u64) {
-        self.put(word);
-        self.put_number(b" ", number);
-        self.put(b"\n");
-    }
-
     /// Appends a mark, and behind it the bytes as lower-case hexadecimal.
     pub fn put_hex(&mut self, mark: &[u8], bytes: &[u8]) {
         self.put(mark);
@@ -75,11 +60,6 @@ impl Text {
         for bit in bits {
             self.put(if *bit { b"1" } else { b"0" });
         }
-    }
-
-    /// How many bytes are written.
-    pub fn len(&self) -> usize {
-        self.bytes.len()
     }
 
     /// The bytes that are written, where there was memory for all.
@@ -99,11 +79,5 @@ impl Text {
         } else {
             Err(Unreplayed::NoMemory)
         }
-    }
-
-    /// Prints what is written, where there was memory for all.
-    pub fn print<W: Sink>(&self, out: &mut W) -> Tried<()> {
-        out.put(self.bytes()?)?;
-        Ok(())
     }
 }
