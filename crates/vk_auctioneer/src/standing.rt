@@ -57,7 +57,11 @@ pub fn announce_reserve<K: Keeper + Drop>(
 }
 
 /// What `announce` says by the house's answer, with a reserve and without.
-fn say_announced(alloc: Global, id: &[u8; 16], answer: Result<(), HouseErr>) -> Result<Said, OutsideErr>
+fn say_announced(
+    alloc: Global,
+    id: &[u8; 16],
+    answer: Result<(), HouseErr>,
+) -> Result<Said, OutsideErr>
     ensures said { (width lanes : ℕ)
         → Says (Announce id.now width lanes) (as_reply (λ _. Done) answer) result }
     ensures reserved { (width lanes reserve : ℕ)

@@ -15,10 +15,10 @@ ghost use Rattle.vk_bids.specs.Texts.{clash_text};
 ghost use Rattle.vk_words.specs.Names.{confront_seen};
 ghost use Rattle.vk_effect.specs.Effects.{IsCommandEnd};
 
-use crate::verdicts::{say_verdict, same_challenge, unread};
+use crate::verdicts::{same_challenge, say_verdict, unread};
 use std::alloc::Global;
 use vk_bids::{ConfrontErr, Confrontation, confrontation_line};
-use vk_effect::{Said, say_malformed, missing, too_long};
+use vk_effect::{Said, missing, say_malformed, too_long};
 use vk_io::{OutsideErr, Shelf};
 use vk_judge::VErr;
 use vk_residue::NoMemory;

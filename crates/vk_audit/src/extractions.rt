@@ -13,7 +13,7 @@ ghost use Rattle.vk_words.specs.Names.{extract_seen};
 ghost use Rattle.vk_audit.specs.Extractions.{extraction_said};
 ghost use Rattle.vk_audit.specs.Verdicts.{answer_said, unread_said};
 
-use crate::verdicts::{say_verdict, same_challenge, unread};
+use crate::verdicts::{same_challenge, say_verdict, unread};
 use std::alloc::Global;
 use vk_bids::{Extraction, clash_line, extraction_lines};
 use vk_effect::Said;

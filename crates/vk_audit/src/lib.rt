@@ -14,4 +14,4 @@ pub use confrontations::{confront_answered, confront_unread, say_confrontation};
 pub use extractions::{extract_answered, say_extraction};
 pub use laws::statuses_mean_what_the_files_are;
 pub use reports::{say_report, say_report_fault};
-pub use verdicts::{say_verdict, same_challenge, unread};
+pub use verdicts::{same_challenge, say_verdict, unread};

@@ -6,7 +6,7 @@ ghost use Rattle.vk_report.specs.Reports.{IsReport, fault_of};
 ghost use Rattle.vk_audit.specs.Reports.{reported_said, unreported_said};
 
 use std::alloc::Global;
-use vk_effect::{Said, say_malformed, missing, say_refused, too_long};
+use vk_effect::{Said, missing, say_malformed, say_refused, too_long};
 use vk_io::OutsideErr;
 use vk_report::{Report, ReportErr, report_lines};
 use vk_residue::NoMemory;

@@ -8,7 +8,7 @@ ghost use Rattle.vk_effect.specs.NamedFiles.{refused_said};
 ghost use Rattle.vk_audit.specs.Verdicts.{IsOfFile, fault_text, judged_said, name_of, reply_of, row_cause, same_said, unread_said, wire_cause};
 
 use std::alloc::Global;
-use vk_effect::{Said, say_malformed, missing, say_refused, too_long};
+use vk_effect::{Said, missing, say_malformed, say_refused, too_long};
 use vk_io::OutsideErr;
 use vk_judge::{Part, VErr};
 use vk_residue::NoMemory;

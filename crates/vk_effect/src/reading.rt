@@ -10,7 +10,7 @@ ghost use Rattle.vk_lines.specs.Lines.{IsBefore, GivesReading, Rest, Starts, res
 ghost use Rattle.vk_effect.specs.Effects.{SaidValue};
 ghost use Rattle.vk_effect.specs.Reading.{begun_in, said_of_unread, said_or_stopped, value_in};
 
-use crate::named::{say_malformed, missing, too_long};
+use crate::named::{missing, say_malformed, too_long};
 use crate::said::Said;
 use std::alloc::Global;
 use vk_io::{OutsideErr, Shelf};

@@ -3,7 +3,7 @@ ghost use Rattle.vk_io.specs.Faults.{Causes};
 
 use crate::faults::FaultCount;
 use crate::file_id::{FileId, are_same};
-use crate::opening::{none_where_absent, id_at};
+use crate::opening::{id_at, none_where_absent};
 use crate::outcome::count_fault;
 use crate::store_names::{folder_of, shares_store_name, store_files};
 use std::alloc::Global;

@@ -74,7 +74,12 @@ impl EitherAtLeast {
             wire: pair,
             factor: more.neg(),
         })?;
-        let mut second = shifted_difference(alloc, self.second_left, self.second_right, Residue::ZERO)?;
+        let mut second = shifted_difference(
+            alloc,
+            self.second_left,
+            self.second_right,
+            Residue::ZERO,
+        )?;
         second.terms.push(Term {
             wire: pair,
             factor: more,
@@ -135,7 +140,12 @@ fn both(alloc: Global, first: Form, second: Form, width: u32) -> Result<Ranges, 
 }
 
 /// Left less right, and a constant.
-fn shifted_difference(alloc: Global, left: u32, right: u32, constant: Residue) -> Result<Form, NoMemory>
+fn shifted_difference(
+    alloc: Global,
+    left: u32,
+    right: u32,
+    constant: Residue,
+) -> Result<Form, NoMemory>
     ensures { IfOk result (λ form. form ≡ shifted_form left right constant) }
 {
     let mut form = difference(alloc, left, right, false)?;

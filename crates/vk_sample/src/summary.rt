@@ -13,7 +13,7 @@ ghost use Rattle.vk_sample.specs.Texts.{counts_text, made_text, opened_said, rea
 
 use crate::files::sample_names;
 use std::alloc::Global;
-use vk_audit::{say_extraction, replies_of, unread};
+use vk_audit::{replies_of, say_extraction, unread};
 use vk_bids::{Extracted, Extraction, extract, sale_line};
 use vk_board::Head;
 use vk_effect::Said;
@@ -114,7 +114,11 @@ fn bids_lines(alloc: Global, made: Vec<String>, found: &Extracted) -> Result<Vec
 
 /// What is said of what the replies come to as they were read back. A clash takes no memory.
 #[tactic(auto, using(vk_judge::specs::Wanting::memory_was_wanting))]
-fn say_read_back(alloc: Global, made: Vec<String>, extraction: &Extraction) -> Result<Said, NoMemory>
+fn say_read_back(
+    alloc: Global,
+    made: Vec<String>,
+    extraction: &Extraction,
+) -> Result<Said, NoMemory>
     ensures said { IfOk result
         (λ said. said ≡ opened_said (flat_map string_bytes made.items) extraction.now) }
     ensures clash { (two : TwoOpeningsSeen) → extraction.now ≡ Extraction.Clash two

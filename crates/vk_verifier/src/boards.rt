@@ -14,7 +14,9 @@ use crate::answers::{BoardRefusal, BoardVerdict, verdict_by};
 use std::alloc::Global;
 use vk_board::{Front, FrontErr, Head, read_front};
 use vk_io::{OutsideErr, Shelf};
-use vk_judge::{Fault, Halt, OneReply, Opened, Part, Refusal, Statement, VErr, judge_file, refusal_as_value};
+use vk_judge::{
+    Fault, Halt, OneReply, Opened, Part, Refusal, Statement, VErr, judge_file, refusal_as_value,
+};
 use vk_lines::{Lines, ReadErr};
 use vk_plan::{Circuit, Plan};
 use vk_residue::NoMemory;
