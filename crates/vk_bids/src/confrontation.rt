@@ -130,12 +130,12 @@ fn begin_secret<S: Shelf>(alloc: Global, shelf: &mut S, name: &str) -> Result<Li
         shelf.old shelf.new }
 {
     let started = Lines::start(alloc, shelf, name);
-    let lines = begin_secret(started);
+    let lines = secret_lines(started);
     lines
 }
 
 /// The secret's file from its first line on, or why it was not begun.
-fn begin_secret(started: Result<Lines, StartErr>) -> Result<Lines, ConfrontErr>
+fn secret_lines(started: Result<Lines, StartErr>) -> Result<Lines, ConfrontErr>
     ensures modelled { (files : Files) (name : List ℕ) → Starts files name started
         → Gives fault_of (λ lines. rest_of lines files) result (secret_begun (map.get files name)) }
     ensures causes { (before : ℕ) (after : ℕ) → Causes StartErr.Failed started before after

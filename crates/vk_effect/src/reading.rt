@@ -61,12 +61,16 @@ pub fn begin_named<S: Shelf>(alloc: Global, shelf: &mut S, name: &str) -> Result
     ensures shelf { OnlyReads S.held S.Shelf.faults Unread.Failed result shelf.old shelf.new }
 {
     let started = Lines::start(alloc, shelf, name);
-    let lines = begin_named(alloc, name, started);
+    let lines = lines_or_unread(alloc, name, started);
     lines
 }
 
 /// The named file from its first line on, or why it was not begun.
-fn begin_named(alloc: Global, name: &str, started: Result<Lines, StartErr>) -> Result<Lines, Unread>
+fn lines_or_unread(
+    alloc: Global,
+    name: &str,
+    started: Result<Lines, StartErr>,
+) -> Result<Lines, Unread>
     requires { IfOk started (IsBefore name.now) }
     ensures modelled { (files : Files) → Starts files name.now started
         → Gives said_of_unread (λ lines. rest_of lines files) result

@@ -77,7 +77,7 @@ impl<S: Alter> SqlKeeper<S> {
 }
 
 /// Counts the answer where it is a fault, and hands it on.
-fn count_fault<T>(faults: &mut u64, answer: Result<T, OutsideErr>) -> Result<T, OutsideErr>
+fn hand_on<T>(faults: &mut u64, answer: Result<T, OutsideErr>) -> Result<T, OutsideErr>
     ensures same { result ≡ answer }
     ensures causes { Causes OutsideErr.Failed result faults.old faults.new }
 {
@@ -117,7 +117,7 @@ impl<S: Alter> Keeper for SqlKeeper<S> {
     {
         self.turns.count_get();
         let found = find(self.alloc, &mut self.connection, id);
-        count_fault(&mut self.faults, found)
+        hand_on(&mut self.faults, found)
     }
 
     fn put(&mut self, auction: Auction) -> Result<(), OutsideErr>
@@ -131,6 +131,6 @@ impl<S: Alter> Keeper for SqlKeeper<S> {
     {
         self.turns.count_put();
         let kept = replace(self.alloc, &mut self.connection, &auction);
-        count_fault(&mut self.faults, kept)
+        hand_on(&mut self.faults, kept)
     }
 }

@@ -116,7 +116,7 @@ impl<H: HousePlace> LateKeeper<H> {
     }
 
     /// Counts the answer where it is a fault, and hands it on.
-    fn count_fault<T>(&mut self, answer: Result<T, OutsideErr>) -> Result<T, OutsideErr>
+    fn hand_on<T>(&mut self, answer: Result<T, OutsideErr>) -> Result<T, OutsideErr>
         ensures same { result ≡ answer }
         ensures kept { self.new.kept ≡ self.old.kept }
         ensures ledger { H.ledger self.new.house ≡ H.ledger self.old.house }
@@ -151,7 +151,7 @@ impl<H: HousePlace> LateKeeper<H> {
         ensures refusal { self.new.refusal ≡ self.old.refusal }
     {
         let found = found_in(&mut self.kept, id);
-        self.count_fault(found)
+        self.hand_on(found)
     }
 
     /// The auction of that id, by the keeper of the house. In a house that isn't made there is
@@ -208,7 +208,7 @@ impl<H: HousePlace> LateKeeper<H> {
     {
         if self.ask(id)?.is_some() {
             self.refusal = Some(Unopened::Meanwhile);
-            return self.count_fault(Err(OutsideErr::Failed));
+            return self.hand_on(Err(OutsideErr::Failed));
         }
         Ok(())
     }
@@ -235,7 +235,7 @@ impl<H: HousePlace> LateKeeper<H> {
             self.was_unmade = false;
         }
         let kept = put_into(&mut self.kept, auction);
-        self.count_fault(kept)
+        self.hand_on(kept)
     }
 
     /// Keeps the auction, by the keeper of the house.

@@ -53,7 +53,7 @@ impl StoreHouse<'_> {
 }
 
 /// Counts the answer where it is a fault, and hands it on.
-fn count_fault<T>(faults: &mut u64, answer: Result<T, Unopened>) -> Result<T, Unopened>
+fn hand_on<T>(faults: &mut u64, answer: Result<T, Unopened>) -> Result<T, Unopened>
     ensures same { result ≡ answer }
     ensures causes { CausesUnopened result faults.old faults.new }
 {
@@ -79,19 +79,19 @@ impl HousePlace for StoreHouse<'_> {
     /// Whether anything has the store's name.
     fn is_made(&mut self) -> Result<bool, Unopened> {
         let is_made = has_name(self.rt);
-        count_fault(&mut self.faults, is_made)
+        hand_on(&mut self.faults, is_made)
     }
 
     /// The store is made where there is none.
     fn open(&mut self) -> Result<SqlKeeper<FileStore<File>>, Unopened> {
         let opened = open_store(self.rt);
-        count_fault(&mut self.faults, opened)
+        hand_on(&mut self.faults, opened)
     }
 
     /// What is kept in the log beside the store is copied into it. Where that fails nothing is
     /// lost, since the next opening finds the log; but the fault is told.
     fn close(&mut self, kept: SqlKeeper<FileStore<File>>) -> Result<(), OutsideErr> {
-        match count_fault(&mut self.faults, close_store(kept)) {
+        match hand_on(&mut self.faults, close_store(kept)) {
             Ok(()) => Ok(()),
             Err(refusal) => Err(refusal.outside()),
         }
