@@ -31,7 +31,7 @@ from concurrent.futures import ThreadPoolExecutor
 
 from bodies.answer import has_one, is_named
 from bodies.crate_copy import Copy
-from bodies.edit import Fault, edits_in
+from bodies.edit import Fault, edits_in, edits_of_gate
 from bodies.kit import asked
 
 HERE = os.path.dirname(os.path.realpath(__file__))
@@ -192,7 +192,12 @@ def main(words):
     parser.add_argument("names", nargs="*", metavar="CRATE | FOLDER/")
     options = parser.parse_args(words)
     edits, run = named_edits(options.names), Run(options.resume)
-    return read_all(run, edits) if options.read else try_all(run, edits, options.jobs)
+    if not options.read:
+        return try_all(run, edits, options.jobs)
+    if not options.names:
+        for crate, gates in edits_of_gate(CRATES).items():
+            edits.setdefault(crate, []).extend(gates)
+    return read_all(run, edits)
 
 
 if __name__ == "__main__":

@@ -63,3 +63,12 @@ def edits_in(folder, crates):
             sys.exit(f"checks/edits.py: {path} is of no crate")
         found.setdefault(crate, []).append(Edit(crate, path))
     return found
+
+
+def edits_of_gate(crates):
+    """Those that the gate tries itself, by crate."""
+    found = {}
+    for path in sorted(glob.glob(os.path.join(glob.escape(crates), "*", "must-fail", "*.edit"))):
+        crate = path.split(os.sep)[-3]
+        found.setdefault(crate, []).append(Edit(crate, path))
+    return found
