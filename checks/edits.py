@@ -31,7 +31,7 @@ from concurrent.futures import ThreadPoolExecutor
 
 from bodies.answer import has_one, is_named
 from bodies.crate_copy import Copy
-from bodies.edit import Fault, edits_in, edits_of_gate
+from bodies.edit import Fault, edits_in
 from bodies.kit import asked
 
 HERE = os.path.dirname(os.path.realpath(__file__))
@@ -195,7 +195,7 @@ def main(words):
     if not options.read:
         return try_all(run, edits, options.jobs)
     if not options.names:
-        for crate, gates in edits_of_gate(CRATES).items():
+        for crate, gates in edits_in(CRATES, CRATES, "must-fail").items():
             edits.setdefault(crate, []).extend(gates)
     return read_all(run, edits)
 

@@ -54,21 +54,12 @@ class Edit:
         return not set(self.functions) & set(other.functions)
 
 
-def edits_in(folder, crates):
-    """The edits of a folder, by crate, each of which is one of the folder `crates`."""
+def edits_in(folder, crates, below=""):
+    """The edits of a folder, by crate, each one of the folder `crates`; of the folders below them, where one is named."""
     found = {}
-    for path in sorted(glob.glob(os.path.join(glob.escape(folder), "*", "*.edit"))):
-        crate = os.path.basename(os.path.dirname(path))
+    for path in sorted(glob.glob(os.path.join(glob.escape(folder), "*", below, "*.edit"))):
+        crate = os.path.relpath(path, folder).split(os.sep)[0]
         if not os.path.isdir(os.path.join(crates, crate, "src")):
             sys.exit(f"checks/edits.py: {path} is of no crate")
-        found.setdefault(crate, []).append(Edit(crate, path))
-    return found
-
-
-def edits_of_gate(crates):
-    """Those that the gate tries itself, by crate."""
-    found = {}
-    for path in sorted(glob.glob(os.path.join(glob.escape(crates), "*", "must-fail", "*.edit"))):
-        crate = path.split(os.sep)[-3]
         found.setdefault(crate, []).append(Edit(crate, path))
     return found
