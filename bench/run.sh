@@ -4,11 +4,12 @@
 # `sample 1` of the program makes the board of 20 seals and 40 lanes that the first rows judge. bench/baseline/verify.c does
 # the least that a verdict takes; it is built without hashing, with a scalar SHA-256, and, where its headers are installed,
 # with OpenSSL's. bench/make_board.py, which is written from docs/FORMATS.md alone, makes the boards of other sizes
-# (seals:width:lanes), one of each version of the same bids, of which that of version 2 has a reserve below its price, and so
-# the same circuit, claim files of 64 inputs with one, some and many winners, and matchings (men:width:lanes), up to 16 men and 16
-# women. The last rows are of a house of 64 seals with 64 lanes at width 40, over a real file, alone and beside 200 auctions of
-# 20 seals with 40 lanes. Each round runs every row once, so that all meet the same noise; the best of each counts. ROUNDS (5)
-# says how many rounds, CPU the processor that the runs are pinned to, CC the compiler. It takes 1 GB of disk, and minutes.
+# (seals:width:lanes), one of each version of the same bids, of which that of version 2 has a reserve below its price, and
+# so the same circuit, claim files of 64 inputs with one, some and many winners, and matchings (men:width:lanes), up to 16
+# men and 16 women, each beside bench/baseline/hash.c, which makes as many digests as its reply has openings. The last rows
+# are of a house of 64 seals with 64 lanes at width 40, over a real file, alone and beside 200 auctions of 20 seals with 40
+# lanes. Each round runs every row once, so that all meet the same noise; the best of each counts. ROUNDS (5) says how many
+# rounds, CPU the processor that the runs are pinned to, CC the compiler. It takes 1 GB of disk, and minutes.
 set -eu
 [ $# -eq 1 ] || { sed -n '2,12p' "$0"; exit 2; }
 program=$(realpath "$1")
@@ -67,13 +68,22 @@ version_rows() {
   done
 }
 
+# hashing_row NAME REPLY: as many digests in C as the reply has openings
+hashing_row() {
+  local openings
+  openings=$(grep -oE '[0-9a-f]{64} ' "$2" | wc -l)
+  row "$openings digests in C, $1" "hashed $openings" "./hashing $openings"
+}
+
 claim_rows() {
   local units
+  "$cc" -O3 -o hashing "$here/baseline/hash.c"
   row 'claim-sample uniform 1' end "$program claim-sample uniform 1"
   for units in 1 8 32; do
     python3 "$here/make_board.py" 64 40 2 1 "units-$units" "units:$units"
     row "claim-verify 64:40:2, $units won" accepted \
       "$program claim-verify units-$units/claim units-$units/challenge-1 units-$units/reply-1"
+    hashing_row "$units won" "units-$units/reply-1"
   done
 }
 
@@ -84,6 +94,7 @@ matching_rows() {
     python3 "$here/make_board.py" ${size//:/ } 1 "matching-$size" matching
     row "claim-verify $size, matching" accepted \
       "$program claim-verify matching-$size/claim matching-$size/challenge-1 matching-$size/reply-1"
+    hashing_row "$size" "matching-$size/reply-1"
   done
 }
 
