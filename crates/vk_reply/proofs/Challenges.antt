@@ -1,16 +1,13 @@
 -- A challenge is read from its text alone, and reading stops at the fault line.
-use Rattle.std.proofs.Common.{◌≡◌, ℕ, ◌≤◌, Bool, List, [], ◌∷◌, ◌++◌, length, codes, Result, Ok, refl, ap, arith}
+use Rattle.std.proofs.Common.{◌≡◌, ℕ, Bool, List, codes, refl, ap, arith}
 use Rattle.std.specs.Result.{result_err}
-use Rattle.vk_residue.specs.Steps.{◌>>=◌}
-use Rattle.vk_lines.specs.Lines.{Rest, line_by, end_at}
-use Rattle.vk_lines.specs.Forms.{line, spaced, IsWhole, FindsFaults, fault_line, whole}
+use Rattle.vk_lines.specs.Forms.{IsWhole, FindsFaults, fault_line, whole}
 use Rattle.vk_lines.proofs.Words.{fixed_line}
 use Rattle.vk_lines.proofs.Parts.{line_part, whole_then, whole_end, whole_same}
 use Rattle.vk_lines.proofs.Faults.{line_follows, ends_then, end_ends, ends_done, fault_line_is}
 use Rattle.vk_reply.specs.declared.challenge.Challenge.{Challenge}
 use Rattle.vk_reply.specs.Values.{IsChallenge}
-use Rattle.vk_reply.specs.Texts.{bits_text, challenge_text}
-use Rattle.vk_reply.specs.Tokens.{bits_line}
+use Rattle.vk_reply.specs.Texts.{challenge_text}
 use Rattle.vk_reply.specs.Reading.{challenge_at}
 use Rattle.vk_reply.specs.Tables.{Heading, Bits, Last, Over, challenge_table}
 use Rattle.vk_reply.proofs.Lines.{bits_line_is}

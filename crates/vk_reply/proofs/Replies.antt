@@ -1,10 +1,9 @@
 -- A reply is read from its text alone, and reading stops at the fault line.
-use Rattle.std.proofs.Common.{◌≡◌, ℕ, zero, suc, ◌+◌, ◌^◌, ◌<◌, ◌≤◌, nat_le, true, Bool, List, [], ◌∷◌, ◌++◌, length, drop, codes, decimal, flat_map, get_or, slice_get, slice_index_or, Some, option_map, Result, Ok, refl, ap, sym, ◌∙◌, arith, subst, length-append}
+use Rattle.std.proofs.Common.{◌≡◌, ℕ, zero, suc, ◌+◌, ◌^◌, ◌<◌, ◌≤◌, nat_le, true, Bool, List, [], ◌∷◌, ◌++◌, length, drop, codes, get_or, slice_get, slice_index_or, Some, option_map, Result, refl, ap, sym, ◌∙◌, arith, subst, length-append}
 use Rattle.std.proofs.lemmas.Bool.{le-leb, leb-true}
 use Rattle.std.specs.Result.{result_err}
-use Rattle.vk_residue.specs.Steps.{◌>>=◌}
-use Rattle.vk_lines.specs.Lines.{Rest, end_at}
-use Rattle.vk_lines.specs.Forms.{line, spaced, numbered_text, EachAfter, IsPart, IsWhole, Follows, FindsFaults, Table, fault_at, fault_line, many_onto, whole}
+use Rattle.vk_lines.specs.Lines.{Rest}
+use Rattle.vk_lines.specs.Forms.{EachAfter, IsPart, IsWhole, Follows, FindsFaults, Table, fault_at, fault_line, many_onto, whole}
 use Rattle.vk_lines.proofs.Words.{number_line_is}
 use Rattle.vk_lines.proofs.Parts.{line_part, many_part, part_headed, part_then, part_same, whole_then, whole_end, whole_same}
 use Rattle.vk_lines.proofs.Each.{at_from_each, each_from_at}
@@ -14,8 +13,8 @@ use Rattle.vk_plan.specs.declared.wire.WireKind.{WireKind}
 use Rattle.vk_plan.specs.declared.wire.WireKind.TheVariants.{Split}
 use Rattle.vk_wire.specs.declared.wire.Shown.{Shown}
 use Rattle.vk_reply.specs.Values.{AreShown, IsReply}
-use Rattle.vk_reply.specs.Texts.{shown_text, reply_head_text, reply_lane_text, reply_text}
-use Rattle.vk_reply.specs.Reading.{shown_line, lane_line, wire_at, wires_at, reply_head_at, reply_lane_at, reply_lanes_at, reply_at}
+use Rattle.vk_reply.specs.Texts.{reply_head_text, reply_lane_text, reply_text}
+use Rattle.vk_reply.specs.Reading.{shown_line, lane_line, wire_at, reply_head_at, reply_lane_at, reply_lanes_at, reply_at}
 use Rattle.vk_reply.specs.Tables.{ReplyPlace, Heading, Count, Lane, Wire, Over, before_wires, reply_table}
 use Rattle.vk_reply.proofs.Lines.{shown_line_is}
 use Rattle.vk_reply.proofs.Wires.{AreWires, from_shown, to_shown}

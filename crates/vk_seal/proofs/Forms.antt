@@ -1,20 +1,17 @@
 -- Seals and secrets are read from their texts alone, and reading stops at the fault line.
-use Rattle.std.proofs.Common.{◌≡◌, ℕ, zero, suc, ◌-◌, ◌^◌, ◌≤◌, true, List, [], ◌∷◌, ◌++◌, length, codes, decimal, flat_map, Option, option_map, Result, Ok, refl, ap, arith}
+use Rattle.std.proofs.Common.{◌≡◌, ℕ, zero, suc, ◌-◌, ◌^◌, ◌≤◌, true, List, [], length, codes, Option, option_map, refl, ap, arith}
 use Rattle.std.specs.Result.{result_err}
 use Rattle.std.specs.List.{AllByRecursion}
 use Rattle.hex.specs.Hex.{IsBytes}
 use Rattle.vk_residue.specs.Residue.{modulus}
-use Rattle.vk_residue.specs.Steps.{◌>>=◌}
-use Rattle.vk_lines.specs.Lines.{Rest, line_by}
-use Rattle.vk_lines.specs.Forms.{line, spaced, is_plain, IsLine, IsPart, IsWhole, EachAfter, Follows, FindsFaults, fault_line, whole}
-use Rattle.vk_lines.specs.Tokens.{hex_text, id_line, number_line, word_of}
-use Rattle.vk_lines.proofs.Words.{decimal_token, hex_token, number_line_is, id_line_is, digests_line_is, three_line, line_same, from_test, to_test, InRange, below_from, below_to}
+use Rattle.vk_lines.specs.Lines.{line_by}
+use Rattle.vk_lines.specs.Forms.{is_plain, IsLine, IsPart, IsWhole, Follows, FindsFaults, fault_line, whole}
+use Rattle.vk_lines.specs.Tokens.{id_line, number_line, word_of}
+use Rattle.vk_lines.proofs.Words.{decimal_token, hex_token, number_line_is, id_line_is, digests_line_is, three_line, line_same, from_test, to_test, below_from, below_to}
 use Rattle.vk_lines.proofs.Parts.{line_part, many_part, part_headed, part_then, part_last, part_same, whole_then, whole_last, whole_end, whole_same, each_from_all, all_from_each}
 use Rattle.vk_lines.proofs.Faults.{line_follows, many_follows, follows_then, follows_done, ends_then, ends_made, end_ends, ends_done, fault_line_is}
 use Rattle.vk_wire.specs.Coms.{com_by}
 use Rattle.vk_wire.specs.Values.{IsCom}
-use Rattle.vk_seal.specs.declared.secret.Secret.{Secret}
-use Rattle.vk_seal.specs.declared.secret.Seal.{Seal}
 use Rattle.vk_seal.specs.Values.{IsSeal, IsSecret, IsXTape}
 use Rattle.vk_seal.specs.Texts.{com_text, tape_text, seat_text, lanes_text, seal_text, secret_text}
 use Rattle.vk_seal.specs.Reading.{com_line, com_at, tape_by, tape_line, tape_at, seat_at, lanes_at, seal_with, seal_at, secret_with, secret_at}
