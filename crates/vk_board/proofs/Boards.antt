@@ -1,18 +1,16 @@
 -- Boards are read from their texts alone. A crate with a head of its own takes what stands behind
 -- it from `behind_is_whole`, as `board_is_whole` does here.
-use Rattle.std.proofs.Common.{◌≡◌, ℕ, ◌≤◌, List, ◌++◌, length, codes, Result, Ok, refl, ap, ◌∙◌}
+use Rattle.std.proofs.Common.{◌≡◌, ℕ, ◌≤◌, List, length, refl, ap, ◌∙◌}
 use Rattle.std.specs.List.{AllByRecursion}
-use Rattle.vk_residue.specs.Steps.{◌>>=◌}
-use Rattle.vk_lines.specs.Lines.{Rest, end_at}
-use Rattle.vk_lines.specs.Forms.{line, IsPart, IsWhole}
+use Rattle.vk_lines.specs.Forms.{IsWhole}
 use Rattle.vk_lines.proofs.Parts.{whole_then, whole_end, whole_same}
 use Rattle.vk_lines.proofs.Numbered.{numbered_all}
 use Rattle.vk_board.specs.declared.board.Head.{Head}
 use Rattle.vk_board.specs.declared.board.SealLines.{SealLines}
 use Rattle.vk_board.specs.declared.board.LaneLines.{LaneLines}
 use Rattle.vk_board.specs.Values.{AreSealsOf, IsLaneLines, IsBoard, Board, Shape, Frame, frame_of}
-use Rattle.vk_board.specs.Texts.{lanes_text, behind_text, board_text}
-use Rattle.vk_board.specs.Reading.{lane_lines_at, behind_at, board_at}
+use Rattle.vk_board.specs.Texts.{behind_text, board_text}
+use Rattle.vk_board.specs.Reading.{behind_at, board_at}
 use Rattle.vk_board.proofs.Forms.{head_is_part, seal_lines_are_part, lane_is_part}
 
 -- ---- behind a head

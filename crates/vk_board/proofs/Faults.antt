@@ -15,7 +15,7 @@ use Rattle.vk_board.specs.declared.board.LaneLines.{LaneLines}
 use Rattle.vk_board.specs.Values.{head_with, Shape, Frame, frame_of}
 use Rattle.vk_board.specs.Reading.{com_line, posted_line, seats_of, reserve_at, head_at, seal_at, seal_lines_at, lane_at, lane_lines_at, behind_at, board_at}
 use Rattle.vk_board.specs.Tables.{InHead, Seal, Lane, Last, Over, BoardPlace, lane_place, row_place, wire_place, seal_place, input_place, behind_head, HeadTable, sealed_table}
-use Rattle.vk_board.specs.Tables.{Heading, Auction, Width, Lanes, Seals, Reserve, Winner, Price, HeadPlace, reserve_place, head_table, board_table}
+use Rattle.vk_board.specs.Tables.{Heading, Auction, Width, Lanes, Seals, Reserve, Winner, Price, HeadPlace, head_table, board_table}
 use Rattle.vk_board.proofs.Seats.{seats_more}
 use Rattle.vk_board.proofs.Forms.{seal_with, lane_with}
 use Rattle.vk_board.proofs.Boards.{board_with}

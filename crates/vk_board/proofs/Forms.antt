@@ -1,22 +1,20 @@
 -- The head, the seals and a lane of a board are read from their texts alone.
-use Rattle.std.proofs.Common.{◌≡◌, ℕ, ◌-◌, ◌^◌, ◌≤◌, ◌==◌, Bool, true, false, if◌then◌else◌, List, [], ◌∷◌, ◌++◌, length, codes, decimal, flat_map, Option, Result, Ok, refl, ap, arith}
+use Rattle.std.proofs.Common.{◌≡◌, ℕ, ◌-◌, ◌^◌, ◌≤◌, ◌==◌, Bool, true, false, if◌then◌else◌, List, [], ◌∷◌, length, codes, decimal, flat_map, Result, Ok, refl, ap, arith}
 use Rattle.std.proofs.lemmas.Bool.{eqb-true, eq-eqb}
-use Rattle.hex.specs.Hex.{IsBytes}
 use Rattle.vk_lines.specs.Lines.{Rest, line_by}
 use Rattle.vk_lines.specs.Forms.{line, spaced, IsLine, IsPart, EachAfter, many_at}
-use Rattle.vk_lines.specs.Tokens.{hex_text, id_line, number_line}
+use Rattle.vk_lines.specs.Tokens.{number_line}
 use Rattle.vk_lines.proofs.Words.{number_line_is, id_line_is, from_test, to_test, InRange, below_from, below_to}
 use Rattle.vk_lines.proofs.Parts.{line_part, many_part, part_then, part_done, part_last, part_same, each_from_all, all_from_each}
 use Rattle.vk_residue.specs.Residue.{modulus}
-use Rattle.vk_residue.specs.Steps.{◌>>=◌}
 use Rattle.vk_wire.specs.declared.wire.WireCom.{WireCom}
 use Rattle.vk_wire.specs.Values.{IsCom}
 use Rattle.vk_board.specs.declared.board.Head.{Head}
 use Rattle.vk_board.specs.declared.board.SealLines.{SealLines}
 use Rattle.vk_board.specs.declared.board.LaneLines.{LaneLines}
-use Rattle.vk_board.specs.Values.{head_with, IsReserve, IsWinner, IsHead, IsSealAfter, AreSealsOf, AreSeals, IsLaneLines}
-use Rattle.vk_board.specs.Texts.{com_text, posted_text, counted_text, reserve_text, winner_text, head_text, seal_lines_text, lane_text}
-use Rattle.vk_board.specs.Reading.{com_line, posted_line, seats_of, winner_line, reserve_at, head_at, seal_at, seal_lines_at, seals_at, lane_at}
+use Rattle.vk_board.specs.Values.{head_with, IsReserve, IsHead, IsSealAfter, AreSealsOf, AreSeals, IsLaneLines}
+use Rattle.vk_board.specs.Texts.{com_text, head_text, seal_lines_text, lane_text}
+use Rattle.vk_board.specs.Reading.{com_line, seats_of, reserve_at, head_at, seal_at, seal_lines_at, seals_at, lane_at}
 use Rattle.vk_board.proofs.Seats.{new_from_test, new_to_test}
 use Rattle.vk_board.proofs.Lines.{com_line_is, posted_line_is, seat_line_is, winner_line_is, to_residues, from_residues}
 
