@@ -1,21 +1,20 @@
 -- Shares and coins are read from their texts alone.
-use Rattle.std.proofs.Common.{◌≡◌, ℕ, ◌+◌, ◌^◌, ◌<◌, ◌≤◌, ◌==◌, Bool, true, false, if◌then◌else◌, nat_le, List, [], ◌∷◌, ◌++◌, length, codes, decimal, Option, Some, None, option_map, Result, Ok, refl, ap, sym, ◌∙◌, arith}
+use Rattle.std.proofs.Common.{◌≡◌, ℕ, ◌+◌, ◌^◌, ◌<◌, ◌≤◌, ◌==◌, Bool, true, false, if◌then◌else◌, nat_le, List, [], ◌∷◌, ◌++◌, length, codes, decimal, Option, Some, None, option_map, Result, refl, ap, sym, ◌∙◌, arith}
 use Rattle.std.specs.List.{AllByRecursion}
 use Rattle.std.proofs.lemmas.Bool.{eq-eqb, eqb-true}
 use Rattle.std.proofs.lemmas.List.{length-map}
 use Rattle.hex.specs.Hex.{IsBytes}
 use Rattle.vk_residue.specs.Steps.{◌>>=◌}
 use Rattle.vk_commit.specs.Values.{AreBytes}
-use Rattle.vk_lines.specs.Lines.{Rest, line_by, end_at}
+use Rattle.vk_lines.specs.Lines.{Rest, line_by}
 use Rattle.vk_lines.specs.Forms.{is_plain, line, spaced, EachAfter, IsLine, IsPart, IsToken, IsWhole, numbered_text}
-use Rattle.vk_lines.specs.Tokens.{hex_text, id_line, number_line, number_token, word_of}
+use Rattle.vk_lines.specs.Tokens.{hex_text, id_line, number_token, word_of}
 use Rattle.vk_lines.proofs.Words.{decimal_token, fixed_line, from_test, hex_token, id_line_is, meeting_token, number_line_is, three_line, to_test, two_line, InRange}
 use Rattle.vk_lines.proofs.Parts.{line_part, part_last, part_same, whole_end, whole_same, whole_then}
 use Rattle.vk_lines.proofs.Numbered.{numbered_all, numbered_part}
 use Rattle.vk_reply.specs.Texts.{bit_character, bits_text}
 use Rattle.vk_reply.specs.Tokens.{bits_of}
 use Rattle.vk_reply.proofs.Lines.{bits_token}
-use Rattle.vk_coin.specs.declared.coin.Coin.{Coin}
 use Rattle.vk_coin.specs.declared.share.Share.{Share}
 use Rattle.vk_coin.specs.declared.tokens.Show.{Show}
 use Rattle.vk_coin.specs.Shares.{IsShare, share_text}
