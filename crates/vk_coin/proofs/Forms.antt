@@ -144,9 +144,8 @@ show_of share = record { key = share.key; bits = share.bits }
 pub share_is_whole : IsWhole IsShare share_text share_at
 unfolding share_text share_at
 share_is_whole =
-    whole_same (
-    titled_whole (codes "vickrey-share 1") refl (omega arith) (λ share. share.auction) (λ auction.
-    whole_then (λ share. share.auditor)
+    whole_same (titled_whole (codes "vickrey-share 1") refl (omega arith) (λ share. share.auction)
+    (λ auction. whole_then (λ share. share.auditor)
     (line_part (number_line_is (codes "auditor") 1 16 refl (omega arith) (omega arith)))
     (λ auditor _. whole_then show_of (line_part show_line_is)
     (λ show _. whole_end (share_with auction auditor show)) (λ show share same. ap show_of same))
