@@ -15,7 +15,7 @@ use Rattle.vk_board.specs.declared.board.LaneLines.{LaneLines}
 use Rattle.vk_board.specs.Values.{head_with, Shape, Frame, frame_of}
 use Rattle.vk_board.specs.Reading.{com_line, posted_line, seats_of, reserve_at, head_at, seal_at, seal_lines_at, lane_at, lane_lines_at, behind_at, board_at}
 use Rattle.vk_board.specs.Tables.{InHead, Seal, Lane, Last, Over, BoardPlace, lane_place, row_place, wire_place, seal_place, input_place, behind_head, HeadTable, sealed_table}
-use Rattle.vk_board.specs.Tables.{Heading, Auction, Width, Lanes, Seals, Reserve, Winner, Price, HeadPlace, reserve_place, head_table, board_table}
+use Rattle.vk_board.specs.Tables.{Heading, Auction, Width, Lanes, Seals, Reserve, Winner, Price, HeadPlace, head_table, board_table}
 use Rattle.vk_board.proofs.Seats.{seats_more}
 use Rattle.vk_board.proofs.Forms.{seal_with, lane_with}
 use Rattle.vk_board.proofs.Boards.{board_with}
@@ -175,22 +175,16 @@ unfolding head_at reserve_at
 head_follows shape =
     let head = head_table shape in
     let after : Head → BoardPlace HeadPlace = λ h. behind_head (frame_of shape h) in
-    head_line_then head Heading _ (λ version. InHead (Auction version)) (λ text. refl) (λ version.
-    head_line_then head (Auction version) _ (λ auction. InHead (Width version auction))
-    (λ text. refl) (λ auction.
-    head_line_then head (Width version auction) _ (λ width. InHead (Lanes version auction width))
-    (λ text. refl) (λ width.
-    head_line_then head (Lanes version auction width) _
-    (λ lanes. InHead (Seals version auction width lanes)) (λ text. refl) (λ lanes.
-    head_line_then head (Seals version auction width lanes) _
-    (reserve_place version auction width lanes) (λ text. refl) (λ seals.
-    follows_then (board_table shape) (reserve_place version auction width lanes seals)
+    head_line_then head Heading _ _ (λ text. refl) (λ version.
+    head_line_then head (Auction version) _ _ (λ text. refl) (λ auction.
+    head_line_then head (Width version auction) _ _ (λ text. refl) (λ width.
+    head_line_then head (Lanes version auction width) _ _ (λ text. refl) (λ lanes.
+    head_line_then head (Seals version auction width lanes) _ _ (λ text. refl) (λ seals.
+    follows_then (board_table shape) _
     (reserve_follows shape version auction width lanes seals (version == 2)) (λ reserve.
-    head_line_then head (Winner version auction width lanes seals reserve) _
-    (λ winner. InHead (Price version auction width lanes seals reserve winner)) (λ text. refl)
+    head_line_then head (Winner version auction width lanes seals reserve) _ _ (λ text. refl)
     (λ winner.
-    head_line_then head (Price version auction width lanes seals reserve winner) _
-    (λ price. after (head_with version auction width lanes seals reserve winner price))
+    head_line_then head (Price version auction width lanes seals reserve winner) _ _
     (λ text. refl) (λ price.
     follows_done (board_table shape) after
     (head_with version auction width lanes seals reserve winner price)))))))))

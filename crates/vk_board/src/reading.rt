@@ -301,7 +301,7 @@ pub fn read_lane<S: Shelf>(
 {
     lines.read_number(shelf, b"lane", u64::from(lane), u64::from(lane))?;
     let coms = read_coms(alloc, shelf, lines, b"w", wires)?;
-    let posted = read_posted(alloc, shelf, lines, rows)?;
+    let posted = read_many(alloc, shelf, lines, &PostedLine, rows)?;
     Ok(lane_from(coms, posted, wires, rows))
 }
 
@@ -337,26 +337,6 @@ fn read_coms<S: Shelf>(
     let made = PhantomData;
     let coms = read_many(alloc, shelf, lines, &DigestsLine { word, made }, count)?;
     Ok(coms)
-}
-
-/// Reads the lines of so many rows.
-fn read_posted<S: Shelf>(
-    alloc: Global,
-    shelf: &mut S,
-    lines: &mut Lines,
-    count: u32,
-) -> Result<Seq<Residue>, ReadErr>
-    ensures reads { Reads (many_at count (λ _. line_by posted_line)) S.held S.Shelf.faults
-        lines.old lines.new shelf.old shelf.new result }
-    ensures number { IfOk result (λ posted. length posted ≡ count) }
-    ensures right { IfOk result (All IsResidue) }
-    ensures wants { MayCause ReadErr.NoMemory result (S.Shelf.wants shelf.old)
-        (S.Shelf.wants shelf.new) }
-    ensures first { IsErrOf result ReadErr.NoMemory
-        → (lines.new ≡ lines.old) ⊎ Rose (S.Shelf.wants shelf.old) (S.Shelf.wants shelf.new) }
-{
-    let posted = read_many(alloc, shelf, lines, &PostedLine, count)?;
-    Ok(posted)
 }
 
 /// The line of a row.

@@ -1,6 +1,7 @@
 -- The challenge that is derived from a board is that of its bytes, and of the text that was tested.
 use Rattle.std.proofs.Common.{◌≡◌, ℕ, Bool, true, is_ok, List, ◌++◌, length, codes, append_assoc, Option, Some, None, Result, Ok, Err, IfSome, OnOk, arith, refl, ap, sym, subst, ◌∙◌}
 use Rattle.std.specs.List.{flat_map}
+use Rattle.sha2.specs.Hashers.{Holds256}
 use Rattle.sha2.specs.Sha256.{sha256}
 use Rattle.sha2.specs.declared.Sha256.{Sha256}
 use Rattle.vk_residue.specs.Limits.{IsLaneCount}
@@ -123,11 +124,11 @@ board_hashed held a b c name front l0 l1 l2 l3 first second third last read end 
 -- ---- the challenge
 
 -- the hashed text is that of a board that may be reported on
-pub of_one_text : (held : Option Files) (name : List ℕ) (front : Front) (first last : Sha256)
-    (challenge : Challenge) (board : HashesBoard held name front first last) → IsFront front
+pub of_one_text : {held : Option Files} {name : List ℕ} {front : Front} {first last : Sha256}
+    {challenge : Challenge} (board : HashesBoard held name front first last) → IsFront front
     → challenge ≡ derived_by front.head.lanes (text_with front board.lanes)
     → IsOfOneText challenge
-of_one_text held name front first last challenge board is derived = record {
+of_one_text {front = front} board is derived = record {
   text = text_with front board.lanes;
   report = report_with front;
   publishes = record {
@@ -147,13 +148,13 @@ of_one_text held name front first last challenge board is derived = record {
 }
 
 -- where the files are modelled, it is the text of the named file
-pub derived_found : (held : Option Files) (name : List ℕ) (front : Front) (first last : Sha256)
-    (challenge : Challenge) (board : HashesBoard held name front first last)
+pub derived_found : {held : Option Files} {name : List ℕ} {front : Front} {first last : Sha256}
+    {challenge : Challenge} (board : HashesBoard held name front first last)
     → IfSome held (λ files. report_on files name ≡ Ok (report_with front))
     → challenge ≡ derived_by front.head.lanes (text_with front board.lanes)
     → IfSome held (λ files. derived_in files name ≡ Ok challenge)
 unfolding derived_in
-derived_found held name front first last challenge board reported derived =
+derived_found {held} {name} {front} {challenge = challenge} board reported derived =
     here held reported board.read
   where
     here : (o : Option Files) → IfSome o (λ files. report_on files name ≡ Ok (report_with front))
@@ -166,11 +167,16 @@ derived_found held name front first last challenge board reported derived =
         ∙ ap (λ bytes. Ok (derived_by front.head.lanes bytes)) read
         ∙ ap (λ c. Ok c) (sym derived)
 
--- the bits of the digest of the whole message are those of the text
-pub challenge_is : (lanes : ℕ) (digest text : List ℕ) (challenge : Challenge)
-    → digest ≡ sha256 (derived_message text)
-    → challenge ≡ record { bits = leading_bits lanes digest }
-    → challenge ≡ derived_by lanes text
+-- the bits of the digest of what was hashed behind the prefix are those of the text
+pub challenge_is : {held : Option Files} {name : List ℕ} {front : Front} {first last : Sha256}
+    {prefix digest : List ℕ} {challenge : Challenge}
+    (board : HashesBoard held name front first last) → prefix ≡ codes "VKD1"
+    → Holds256 first prefix → ((message : List ℕ) → Holds256 last message → digest ≡ sha256 message)
+    → challenge ≡ record { bits = leading_bits front.head.lanes digest }
+    → challenge ≡ derived_by front.head.lanes (text_with front board.lanes)
 unfolding derived_bits
-challenge_is lanes digest text challenge is made =
-    made ∙ ap (λ (d : List ℕ). record { bits = leading_bits lanes d }) is
+challenge_is {front = front} {first = first} board prefixed holds digest made =
+    let P : List ℕ → Type 0 = λ message. Holds256 first message in
+    made ∙ ap (λ (d : List ℕ). record { bits = leading_bits front.head.lanes d })
+    (digest (derived_message (text_with front board.lanes))
+    (board.hashed (codes "VKD1") (subst P prefixed holds)))

@@ -1,21 +1,20 @@
 -- Shares and coins are read from their texts alone.
-use Rattle.std.proofs.Common.{◌≡◌, ℕ, ◌+◌, ◌^◌, ◌<◌, ◌≤◌, ◌==◌, Bool, true, false, if◌then◌else◌, nat_le, List, [], ◌∷◌, ◌++◌, length, codes, decimal, Option, Some, None, option_map, Result, Ok, refl, ap, sym, ◌∙◌, arith}
+use Rattle.std.proofs.Common.{◌≡◌, ℕ, ◌+◌, ◌^◌, ◌<◌, ◌≤◌, ◌==◌, Bool, true, false, if◌then◌else◌, nat_le, List, [], ◌∷◌, ◌++◌, length, codes, decimal, Option, Some, None, option_map, Result, refl, ap, sym, ◌∙◌, arith}
 use Rattle.std.specs.List.{AllByRecursion}
 use Rattle.std.proofs.lemmas.Bool.{eq-eqb, eqb-true}
 use Rattle.std.proofs.lemmas.List.{length-map}
 use Rattle.hex.specs.Hex.{IsBytes}
 use Rattle.vk_residue.specs.Steps.{◌>>=◌}
 use Rattle.vk_commit.specs.Values.{AreBytes}
-use Rattle.vk_lines.specs.Lines.{Rest, line_by, end_at}
+use Rattle.vk_lines.specs.Lines.{Rest, line_by}
 use Rattle.vk_lines.specs.Forms.{is_plain, line, spaced, EachAfter, IsLine, IsPart, IsToken, IsWhole, numbered_text}
-use Rattle.vk_lines.specs.Tokens.{hex_text, id_line, number_line, number_token, word_of}
+use Rattle.vk_lines.specs.Tokens.{hex_text, id_line, number_token, word_of}
 use Rattle.vk_lines.proofs.Words.{decimal_token, fixed_line, from_test, hex_token, id_line_is, meeting_token, number_line_is, three_line, to_test, two_line, InRange}
 use Rattle.vk_lines.proofs.Parts.{line_part, part_last, part_same, whole_end, whole_same, whole_then}
 use Rattle.vk_lines.proofs.Numbered.{numbered_all, numbered_part}
 use Rattle.vk_reply.specs.Texts.{bit_character, bits_text}
 use Rattle.vk_reply.specs.Tokens.{bits_of}
 use Rattle.vk_reply.proofs.Lines.{bits_token}
-use Rattle.vk_coin.specs.declared.coin.Coin.{Coin}
 use Rattle.vk_coin.specs.declared.share.Share.{Share}
 use Rattle.vk_coin.specs.declared.tokens.Show.{Show}
 use Rattle.vk_coin.specs.Shares.{IsShare, share_text}
@@ -127,15 +126,13 @@ titled_whole : {Z : Type 0} {IsZ : List ℕ → Z → Type 0} {text : Z → List
     (λ rest. line_by (word_of heading) rest >>= λ first.
     line_by (id_line (codes "auction")) first.1 >>= λ auction. read auction.0 auction.1)
 titled_whole {IsZ = IsZ} {text = text} {read = read} heading plain short id whole same =
-    let identified =
+    whole_same (
+    whole_then (λ z. tt) (line_part (fixed_line heading plain short)) (λ first _.
     whole_then {IsZ = IsZ} {text_z = λ _ z. text z} {read_z = read} id
     (line_part (id_line_is (codes "auction") refl (omega arith))) (λ auction _. whole auction)
-    same in
-    whole_same
-    (whole_then {X = Unit {0}} {IsZ = λ _ z. IsId (id z) × IsZ (id z) z}
-    {text_z = λ _ z. line (spaced (codes "auction" ∷ hex_text (id z) ∷ [])) ++ text z}
-    (λ z. tt) (line_part (fixed_line heading plain short)) (λ first _. identified)
-    (λ first z is. refl))
+    same)
+    (λ first z is. refl)
+    )
     (λ z is. is.1) (λ z is. (tt, is)) (λ z. refl)
 
 -- ---- a share
@@ -144,52 +141,17 @@ titled_whole {IsZ = IsZ} {text = text} {read = read} heading plain short id whol
 abbrev show_of : Share → Show
 show_of share = record { key = share.key; bits = share.bits }
 
--- what is read from the line that shows it, from the auditor and from the id on
-abbrev ShowOf : List ℕ → ℕ → Share → Type 0
-ShowOf auction auditor share = IsShow (show_of share)
-    × (share ≡ share_with auction auditor (show_of share))
-
-abbrev AuditorOf : List ℕ → Share → Type 0
-AuditorOf auction share = InRange 1 16 share.auditor × ShowOf auction share.auditor share
-
-abbrev show_text : Share → List ℕ
-show_text share = line (spaced (codes "show" ∷ hex_text share.key ∷ bits_text share.bits ∷ []))
-    ++ line (codes "end")
-
-abbrev auditor_text : Share → List ℕ
-auditor_text share = line (spaced (codes "auditor" ∷ decimal share.auditor ∷ [])) ++ show_text share
-
-abbrev show_at : List ℕ → ℕ → Rest → Result (Share × Rest) ℕ
-show_at auction auditor rest =
-    line_by show_line rest >>= λ show. end_at show.1 >>= λ over.
-    Ok (share_with auction auditor show.0, over.1)
-
-abbrev auditor_at : List ℕ → Rest → Result (Share × Rest) ℕ
-auditor_at auction rest = line_by (number_line (codes "auditor") 1 16) rest >>= λ auditor.
-    show_at auction auditor.0 auditor.1
-
-show_whole : (auction : List ℕ) (auditor : ℕ)
-    → IsWhole (ShowOf auction auditor) show_text (show_at auction auditor)
-show_whole auction auditor =
-    whole_then {IsZ = λ show share. share ≡ share_with auction auditor show}
-    {text_z = λ show share. line (codes "end")} show_of
-    (line_part show_line_is) (λ show _. whole_end (share_with auction auditor show))
-    (λ show share same. ap show_of same)
-
-auditor_whole : (auction : List ℕ) → IsWhole (AuditorOf auction) auditor_text (auditor_at auction)
-auditor_whole auction =
-    whole_then {IsZ = λ auditor share. ShowOf auction auditor share}
-    {text_z = λ auditor share. show_text share} (λ share. share.auditor)
-    (line_part (number_line_is (codes "auditor") 1 16 refl (omega arith) (omega arith)))
-    (λ auditor _. show_whole auction auditor) (λ auditor share is. ap (λ s. s.auditor) is.1)
-
 pub share_is_whole : IsWhole IsShare share_text share_at
 unfolding share_text share_at
 share_is_whole =
-    whole_same
-    (titled_whole {IsZ = AuditorOf} {text = auditor_text} {read = auditor_at}
-    (codes "vickrey-share 1") refl (omega arith) (λ share. share.auction) auditor_whole
-    (λ auction share is. ap (λ s. s.auction) is.1.1))
+    whole_same (titled_whole (codes "vickrey-share 1") refl (omega arith) (λ share. share.auction)
+    (λ auction. whole_then (λ share. share.auditor)
+    (line_part (number_line_is (codes "auditor") 1 16 refl (omega arith) (omega arith)))
+    (λ auditor _. whole_then show_of (line_part show_line_is)
+    (λ show _. whole_end (share_with auction auditor show)) (λ show share same. ap show_of same))
+    (λ auditor share is. ap (λ s. s.auditor) is.1))
+    (λ auction share is. ap (λ s. s.auction) is.1.1)
+    )
     (λ share is. record {
       id = is.0;
       auditor = record { least = from_test 1 share.auditor is.1.0.1; most = is.1.0.0 };
@@ -240,98 +202,25 @@ shares_part auction bits auditors some few most =
 
 -- ---- a coin
 
--- what is read from the shares, the parts, the number of auditors, the number of bits and the id on
-abbrev SharesOf : List ℕ → ℕ → ℕ → List (List ℕ) → Coin → Type 0
-SharesOf auction bits auditors parts coin =
-    ((length coin.shares ≡ auditors)
-    × EachAfter (λ before. IsShareOf auction bits (length before + 1)) [] coin.shares)
-    × (coin ≡ coin_with auction bits parts coin.shares)
-
-abbrev PartsOf : List ℕ → ℕ → ℕ → Coin → Type 0
-PartsOf auction bits auditors coin =
-    ((length coin.parts ≡ auditors) × AllByRecursion (AreBytes 32) coin.parts)
-    × SharesOf auction bits auditors coin.parts coin
-
-abbrev AuditorsOf : List ℕ → ℕ → Coin → Type 0
-AuditorsOf auction bits coin = InRange 1 16 (length coin.parts)
-    × PartsOf auction bits (length coin.parts) coin
-
-abbrev BitsOf : List ℕ → Coin → Type 0
-BitsOf auction coin = InRange 1 64 coin.bits × AuditorsOf auction coin.bits coin
-
-abbrev shares_text : Coin → List ℕ
-shares_text coin = numbered_text shown_text 1 coin.shares ++ line (codes "end")
-
-abbrev parts_text : Coin → List ℕ
-parts_text coin = numbered_text part_text 1 coin.parts ++ shares_text coin
-
-abbrev auditors_text : Coin → List ℕ
-auditors_text coin = line (spaced (codes "auditors" ∷ decimal (length coin.parts) ∷ []))
-    ++ parts_text coin
-
-abbrev count_text : Coin → List ℕ
-count_text coin = line (spaced (codes "bits" ∷ decimal coin.bits ∷ [])) ++ auditors_text coin
-
-abbrev shares_and_end : List ℕ → ℕ → ℕ → List (List ℕ) → Rest → Result (Coin × Rest) ℕ
-shares_and_end auction bits auditors parts rest =
-    shares_at auction bits auditors rest >>= λ shares. end_at shares.1 >>= λ over.
-    Ok (coin_with auction bits parts shares.0, over.1)
-
-abbrev parts_and_end : List ℕ → ℕ → ℕ → Rest → Result (Coin × Rest) ℕ
-parts_and_end auction bits auditors rest =
-    parts_at auditors rest >>= λ parts. shares_and_end auction bits auditors parts.0 parts.1
-
-abbrev auditors_at : List ℕ → ℕ → Rest → Result (Coin × Rest) ℕ
-auditors_at auction bits rest =
-    line_by (number_line (codes "auditors") 1 16) rest >>= λ auditors. parts_and_end auction bits
-    auditors.0 auditors.1
-
-abbrev count_at : List ℕ → Rest → Result (Coin × Rest) ℕ
-count_at auction rest = line_by (number_line (codes "bits") 1 64) rest >>= λ bits.
-    auditors_at auction bits.0 bits.1
-
-shares_whole : (auction : List ℕ) (bits auditors : ℕ) (parts : List (List ℕ)) → 1 ≤ bits → bits ≤ 64
-    → auditors ≤ 16
-    → IsWhole (SharesOf auction bits auditors parts) shares_text
-    (shares_and_end auction bits auditors parts)
-shares_whole auction bits auditors parts some few most =
-    whole_then {IsZ = λ shares coin. coin ≡ coin_with auction bits parts shares}
-    {text_z = λ shares coin. line (codes "end")} (λ coin. coin.shares)
-    (shares_part auction bits auditors some few most)
-    (λ shares _. whole_end (coin_with auction bits parts shares))
-    (λ shares coin same. ap (λ c. c.shares) same)
-
-parts_whole : (auction : List ℕ) (bits auditors : ℕ) → 1 ≤ bits → bits ≤ 64 → auditors ≤ 16
-    → IsWhole (PartsOf auction bits auditors) parts_text (parts_and_end auction bits auditors)
-parts_whole auction bits auditors some few most =
-    whole_then {IsZ = λ parts coin. SharesOf auction bits auditors parts coin}
-    {text_z = λ parts coin. shares_text coin} (λ coin. coin.parts)
-    (parts_part auditors most) (λ parts _. shares_whole auction bits auditors parts some few most)
-    (λ parts coin is. ap (λ c. c.parts) is.1)
-
-auditors_whole : (auction : List ℕ) (bits : ℕ) → 1 ≤ bits → bits ≤ 64
-    → IsWhole (AuditorsOf auction bits) auditors_text (auditors_at auction bits)
-auditors_whole auction bits some few =
-    whole_then {IsZ = λ auditors coin. PartsOf auction bits auditors coin}
-    {text_z = λ auditors coin. parts_text coin} (λ coin. length coin.parts)
-    (line_part (number_line_is (codes "auditors") 1 16 refl (omega arith) (omega arith)))
-    (λ auditors is. parts_whole auction bits auditors some few is.0) (λ auditors coin is. is.0.0)
-
-count_whole : (auction : List ℕ) → IsWhole (BitsOf auction) count_text (count_at auction)
-count_whole auction =
-    whole_then {IsZ = λ bits coin. AuditorsOf auction bits coin}
-    {text_z = λ bits coin. auditors_text coin} (λ coin. coin.bits)
-    (line_part (number_line_is (codes "bits") 1 64 refl (omega arith) (omega arith)))
-    (λ bits is. auditors_whole auction bits (from_test 1 bits is.1) is.0)
-    (λ bits coin is. ap (λ c. c.bits) is.1.1.1)
-
 pub coin_is_whole : IsWhole IsCoin coin_text coin_at
 unfolding coin_text coin_at
 coin_is_whole =
-    whole_same
-    (titled_whole {IsZ = BitsOf} {text = count_text} {read = count_at} (codes "vickrey-coin 1") refl
-    (omega arith) (λ coin. coin.auction) count_whole
-    (λ auction coin is. ap (λ c. c.auction) is.1.1.1.1))
+    whole_same (
+    titled_whole (codes "vickrey-coin 1") refl (omega arith) (λ coin. coin.auction) (λ auction.
+    whole_then (λ coin. coin.bits)
+    (line_part (number_line_is (codes "bits") 1 64 refl (omega arith) (omega arith))) (λ bits few.
+    whole_then (λ coin. length coin.parts)
+    (line_part (number_line_is (codes "auditors") 1 16 refl (omega arith) (omega arith)))
+    (λ auditors most. whole_then (λ coin. coin.parts) (parts_part auditors most.0) (λ parts _.
+    whole_then (λ coin. coin.shares)
+    (shares_part auction bits auditors (from_test 1 bits few.1) few.0 most.0)
+    (λ shares _. whole_end (coin_with auction bits parts shares))
+    (λ shares coin same. ap (λ c. c.shares) same))
+    (λ parts coin is. ap (λ c. c.parts) is.1))
+    (λ auditors coin is. is.0.0))
+    (λ bits coin is. ap (λ c. c.bits) is.1.1.1))
+    (λ auction coin is. ap (λ c. c.auction) is.1.1.1.1)
+    )
     (λ coin is. record {
       bits = record { least = from_test 1 coin.bits is.1.0.1; most = is.1.0.0 };
       auditors = record { least = from_test 1 (length coin.parts) is.1.1.0.1; most = is.1.1.0.0 };

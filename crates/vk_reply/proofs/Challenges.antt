@@ -1,16 +1,13 @@
 -- A challenge is read from its text alone, and reading stops at the fault line.
-use Rattle.std.proofs.Common.{◌≡◌, ℕ, ◌≤◌, Bool, List, [], ◌∷◌, ◌++◌, length, codes, Result, Ok, refl, ap, arith}
+use Rattle.std.proofs.Common.{◌≡◌, ℕ, Bool, List, codes, refl, ap, arith}
 use Rattle.std.specs.Result.{result_err}
-use Rattle.vk_residue.specs.Steps.{◌>>=◌}
-use Rattle.vk_lines.specs.Lines.{Rest, line_by, end_at}
-use Rattle.vk_lines.specs.Forms.{line, spaced, IsWhole, FindsFaults, fault_line, whole}
+use Rattle.vk_lines.specs.Forms.{IsWhole, FindsFaults, fault_line, whole}
 use Rattle.vk_lines.proofs.Words.{fixed_line}
 use Rattle.vk_lines.proofs.Parts.{line_part, whole_then, whole_end, whole_same}
 use Rattle.vk_lines.proofs.Faults.{line_follows, ends_then, end_ends, ends_done, fault_line_is}
 use Rattle.vk_reply.specs.declared.challenge.Challenge.{Challenge}
 use Rattle.vk_reply.specs.Values.{IsChallenge}
-use Rattle.vk_reply.specs.Texts.{bits_text, challenge_text}
-use Rattle.vk_reply.specs.Tokens.{bits_line}
+use Rattle.vk_reply.specs.Texts.{challenge_text}
 use Rattle.vk_reply.specs.Reading.{challenge_at}
 use Rattle.vk_reply.specs.Tables.{Heading, Bits, Last, Over, challenge_table}
 use Rattle.vk_reply.proofs.Lines.{bits_line_is}
@@ -18,40 +15,16 @@ use Rattle.vk_reply.proofs.Lines.{bits_line_is}
 abbrev challenge_of : List Bool → Challenge
 challenge_of bits = record { bits = bits }
 
-abbrev BitsOf : Challenge → Type 0
-BitsOf challenge = ((1 ≤ length challenge.bits) × (length challenge.bits ≤ 64))
-    × (challenge ≡ challenge_of challenge.bits)
-
-abbrev bits_and_end : Challenge → List ℕ
-bits_and_end challenge = line (spaced (codes "bits" ∷ bits_text challenge.bits ∷ []))
-    ++ line (codes "end")
-
-abbrev bits_at : Rest → Result (Challenge × Rest) ℕ
-bits_at rest =
-    line_by bits_line rest >>= λ bits.
-    end_at bits.1 >>= λ over.
-    Ok (challenge_of bits.0, over.1)
-
-bits_whole : IsWhole BitsOf bits_and_end bits_at
-bits_whole =
-    whole_then {IsZ = λ bits challenge. challenge ≡ challenge_of bits}
-    {text_z = λ bits challenge. line (codes "end")} (λ challenge. challenge.bits)
-    (line_part bits_line_is) (λ bits _. whole_end (challenge_of bits))
-    (λ bits challenge same. ap (λ c. c.bits) same)
-
-challenge_whole : IsWhole (λ challenge. Unit {0} × BitsOf challenge)
-    (λ challenge. line (codes "vickrey-challenge 1") ++ bits_and_end challenge) challenge_at
-unfolding challenge_at
-challenge_whole =
-    whole_then {X = Unit {0}} {IsZ = λ _ challenge. BitsOf challenge}
-    {text_z = λ _ challenge. bits_and_end challenge} (λ challenge. tt)
-    (line_part (fixed_line (codes "vickrey-challenge 1") refl (omega arith)))
-    (λ heading _. bits_whole) (λ heading challenge is. refl)
-
 pub challenge_is_whole : IsWhole IsChallenge challenge_text challenge_at
-unfolding challenge_text
+unfolding challenge_text challenge_at
 challenge_is_whole =
-    whole_same challenge_whole
+    whole_same (
+    whole_then (λ challenge. tt)
+    (line_part (fixed_line (codes "vickrey-challenge 1") refl (omega arith))) (λ heading _.
+    whole_then (λ challenge. challenge.bits) (line_part bits_line_is)
+    (λ bits _. whole_end (challenge_of bits)) (λ bits challenge same. ap (λ c. c.bits) same))
+    (λ heading challenge is. refl)
+    )
     (λ challenge is. record { some_bit = is.1.0.0; few_bits = is.1.0.1 })
     (λ challenge is. (tt, ((is.some_bit, is.few_bits), refl)))
     (λ challenge. refl)

@@ -1,10 +1,9 @@
 -- A reply is read from its text alone, and reading stops at the fault line.
-use Rattle.std.proofs.Common.{◌≡◌, ℕ, zero, suc, ◌+◌, ◌^◌, ◌<◌, ◌≤◌, nat_le, true, Bool, List, [], ◌∷◌, ◌++◌, length, drop, codes, decimal, flat_map, get_or, slice_get, slice_index_or, Some, option_map, Result, Ok, refl, ap, sym, ◌∙◌, arith, subst, length-append}
+use Rattle.std.proofs.Common.{◌≡◌, ℕ, zero, suc, ◌+◌, ◌^◌, ◌<◌, ◌≤◌, nat_le, true, Bool, List, [], ◌∷◌, ◌++◌, length, drop, codes, get_or, slice_get, slice_index_or, Some, option_map, Result, refl, ap, sym, ◌∙◌, arith, subst, length-append}
 use Rattle.std.proofs.lemmas.Bool.{le-leb, leb-true}
 use Rattle.std.specs.Result.{result_err}
-use Rattle.vk_residue.specs.Steps.{◌>>=◌}
-use Rattle.vk_lines.specs.Lines.{Rest, end_at}
-use Rattle.vk_lines.specs.Forms.{line, spaced, numbered_text, EachAfter, IsPart, IsWhole, Follows, FindsFaults, Table, fault_at, fault_line, many_onto, whole}
+use Rattle.vk_lines.specs.Lines.{Rest}
+use Rattle.vk_lines.specs.Forms.{EachAfter, IsPart, IsWhole, Follows, FindsFaults, Table, fault_at, fault_line, many_onto, whole}
 use Rattle.vk_lines.proofs.Words.{number_line_is}
 use Rattle.vk_lines.proofs.Parts.{line_part, many_part, part_headed, part_then, part_same, whole_then, whole_end, whole_same}
 use Rattle.vk_lines.proofs.Each.{at_from_each, each_from_at}
@@ -14,8 +13,8 @@ use Rattle.vk_plan.specs.declared.wire.WireKind.{WireKind}
 use Rattle.vk_plan.specs.declared.wire.WireKind.TheVariants.{Split}
 use Rattle.vk_wire.specs.declared.wire.Shown.{Shown}
 use Rattle.vk_reply.specs.Values.{AreShown, IsReply}
-use Rattle.vk_reply.specs.Texts.{shown_text, reply_head_text, reply_lane_text, reply_text}
-use Rattle.vk_reply.specs.Reading.{shown_line, lane_line, wire_at, wires_at, reply_head_at, reply_lane_at, reply_lanes_at, reply_at}
+use Rattle.vk_reply.specs.Texts.{reply_head_text, reply_lane_text, reply_text}
+use Rattle.vk_reply.specs.Reading.{shown_line, lane_line, wire_at, reply_head_at, reply_lane_at, reply_lanes_at, reply_at}
 use Rattle.vk_reply.specs.Tables.{ReplyPlace, Heading, Count, Lane, Wire, Over, before_wires, reply_table}
 use Rattle.vk_reply.proofs.Lines.{shown_line_is}
 use Rattle.vk_reply.proofs.Wires.{AreWires, from_shown, to_shown}
@@ -25,57 +24,34 @@ use Rattle.vk_reply.proofs.Wires.{AreWires, from_shown, to_shown}
 abbrev IsCount : ℕ → Type 0
 IsCount lanes = (1 ≤ lanes) × (lanes ≤ 64)
 
-head_part : IsPart (λ lanes. (lanes ≤ 64) × (nat_le 1 lanes ≡ true))
-    (λ lanes. line (codes "vickrey-reply 1") ++ line (spaced (codes "lanes" ∷ decimal lanes ∷ [])))
-    reply_head_at
-unfolding reply_head_at
-head_part =
-    part_headed (codes "vickrey-reply 1") refl (omega arith)
-    (line_part (number_line_is (codes "lanes") 1 64 refl (omega arith) (omega arith)))
-
 pub head_is_part : IsPart IsCount reply_head_text reply_head_at
-unfolding reply_head_text
+unfolding reply_head_text reply_head_at
 head_is_part =
-    part_same head_part
+    part_same (part_headed (codes "vickrey-reply 1") refl (omega arith)
+    (line_part (number_line_is (codes "lanes") 1 64 refl (omega arith) (omega arith))))
     (λ lanes is. (leb-true 1 lanes is.1, is.0))
     (λ lanes is. (is.1, le-leb 1 lanes is.0))
     (λ lanes. refl)
 
 -- ---- a lane
 
-abbrev wires_text : List Shown → List ℕ
-wires_text shown = flat_map (λ one. line (shown_text one)) shown
-
-wires_part : (kinds : List WireKind) (bit : Bool)
-    → IsPart (λ shown. (length shown ≡ length kinds) × AreWires kinds bit shown) wires_text
-    (wires_at kinds bit)
-wires_part kinds bit = many_part (length kinds)
-    (λ before. line_part (shown_line_is (slice_index_or kinds (length before) Split) bit))
-
 between : (lane number : ℕ) → number ≤ lane → nat_le lane number ≡ true → lane ≡ number
 between lane number most test = let least = leb-true lane number test in omega arith
 
-lane_part : (lane : ℕ) (kinds : List WireKind) (bit : Bool) → lane < 2 ^ 64
-    → IsPart (λ shown. ((lane ≤ lane) × (nat_le lane lane ≡ true))
-    × ((lane ≡ lane) × ((length shown ≡ length kinds) × AreWires kinds bit shown)))
-    (λ shown. line (spaced (codes "lane" ∷ decimal lane ∷ [])) ++ wires_text shown)
-    (reply_lane_at lane kinds bit)
-unfolding reply_lane_at
-lane_part lane kinds bit fits =
+pub lane_is_part : (lane : ℕ) (kinds : List WireKind) (bit : Bool) → lane < 2 ^ 64
+    → IsPart (AreShown kinds bit) (reply_lane_text lane) (reply_lane_at lane kinds bit)
+unfolding reply_lane_text reply_lane_at
+lane_is_part lane kinds bit fits =
+    part_same (
     part_then {IsZ = λ number shown. (lane ≡ number)
-    × ((length shown ≡ length kinds) × AreWires kinds bit shown)}
-    {text_z = λ _ shown. wires_text shown} (λ shown. lane)
+    × ((length shown ≡ length kinds) × AreWires kinds bit shown)} (λ shown. lane)
     (line_part (number_line_is (codes "lane") lane lane refl (omega arith) fits))
-    (λ number is. part_same (wires_part kinds bit)
+    (λ number is. part_same (many_part (length kinds) (λ before.
+    line_part (shown_line_is (slice_index_or kinds (length before) Split) bit)))
     (λ shown wires. (between lane number is.0 is.1, wires)) (λ shown wires. wires.1)
     (λ shown. refl))
     (λ number shown is. is.0)
-
-pub lane_is_part : (lane : ℕ) (kinds : List WireKind) (bit : Bool) → lane < 2 ^ 64
-    → IsPart (AreShown kinds bit) (reply_lane_text lane) (reply_lane_at lane kinds bit)
-unfolding reply_lane_text
-lane_is_part lane kinds bit fits =
-    part_same (lane_part lane kinds bit fits)
+    )
     (λ shown is. to_shown kinds bit shown is.1.1.0 is.1.1.1)
     (λ shown is. (
       (omega arith, le-leb lane lane (omega arith)),
@@ -88,41 +64,8 @@ lane_is_part lane kinds bit fits =
 abbrev IsLane : List WireKind → (ℕ → Bool) → ℕ → List Shown → Type 0
 IsLane kinds bit_of lane shown = AreShown kinds (bit_of lane) shown
 
-abbrev LanesOf : List WireKind → (ℕ → Bool) → ℕ → List (List Shown) → Type 0
-LanesOf kinds bit_of count lanes =
-    ((length lanes ≡ count) × EachAfter (λ before. IsLane kinds bit_of (length before + 1)) []
-    lanes) × (lanes ≡ lanes)
-
-abbrev lanes_and_end : List (List Shown) → List ℕ
-lanes_and_end lanes = numbered_text reply_lane_text 1 lanes ++ line (codes "end")
-
-abbrev lanes_at : List WireKind → (ℕ → Bool) → ℕ → Rest → Result (List (List Shown) × Rest) ℕ
-lanes_at kinds bit_of count rest =
-    reply_lanes_at kinds bit_of count rest >>= λ lanes.
-    end_at lanes.1 >>= λ over.
-    Ok (lanes.0, over.1)
-
 small_lane : (lane : ℕ) → lane ≤ 64 → lane < 2 ^ 64
 small_lane lane few = omega arith
-
-lanes_whole : (kinds : List WireKind) (bit_of : ℕ → Bool) (count : ℕ) → count ≤ 64
-    → IsWhole (LanesOf kinds bit_of count) lanes_and_end (lanes_at kinds bit_of count)
-lanes_whole kinds bit_of count few =
-    whole_then {IsZ = λ read lanes. lanes ≡ read} {text_z = λ read lanes. line (codes "end")}
-    (λ lanes. lanes)
-    (numbered_part {IsValue = IsLane kinds bit_of} {text = reply_lane_text}
-    {read = λ lane. reply_lane_at lane kinds (bit_of lane)} 64 count few
-    (λ lane small. lane_is_part lane kinds (bit_of lane) (small_lane lane small)))
-    (λ lanes _. whole_end lanes) (λ read lanes same. same)
-
-reply_whole : (kinds : List WireKind) (bit_of : ℕ → Bool)
-    → IsWhole (λ lanes. IsCount (length lanes) × LanesOf kinds bit_of (length lanes) lanes)
-    (λ lanes. reply_head_text (length lanes) ++ lanes_and_end lanes) (reply_at kinds bit_of)
-unfolding reply_at
-reply_whole kinds bit_of =
-    whole_then {IsZ = λ count lanes. LanesOf kinds bit_of count lanes}
-    {text_z = λ _ lanes. lanes_and_end lanes} (λ lanes. length lanes)
-    head_is_part (λ count is. lanes_whole kinds bit_of count is.1) (λ count lanes is. is.0.0)
 
 -- each lane at its place
 to_lanes : (kinds : List WireKind) (bit_of : ℕ → Bool) (lanes : List (List Shown))
@@ -146,9 +89,16 @@ from_lanes kinds bit_of lanes at =
 
 pub reply_is_whole : (kinds : List WireKind) (bit_of : ℕ → Bool)
     → IsWhole (IsReply kinds bit_of) reply_text (reply_at kinds bit_of)
-unfolding reply_text
+unfolding reply_text reply_at
 reply_is_whole kinds bit_of =
-    whole_same (reply_whole kinds bit_of)
+    whole_same (
+    whole_then (λ lanes. length lanes) head_is_part (λ count few.
+    whole_then (λ lanes. lanes)
+    (numbered_part {IsValue = IsLane kinds bit_of} 64 count few.1 (λ lane small.
+    lane_is_part lane kinds (bit_of lane) (small_lane lane small)))
+    (λ lanes _. whole_end lanes) (λ read lanes same. same))
+    (λ count lanes is. is.0.0)
+    )
     (λ lanes is. record {
       count = record { least = is.0.0; most = is.0.1 };
       each = to_lanes kinds bit_of lanes is.1.0.1;

@@ -1,20 +1,17 @@
 -- Seals and secrets are read from their texts alone, and reading stops at the fault line.
-use Rattle.std.proofs.Common.{◌≡◌, ℕ, zero, suc, ◌-◌, ◌^◌, ◌≤◌, true, List, [], ◌∷◌, ◌++◌, length, codes, decimal, flat_map, Option, option_map, Result, Ok, refl, ap, arith}
+use Rattle.std.proofs.Common.{◌≡◌, ℕ, zero, suc, ◌-◌, ◌^◌, ◌≤◌, true, List, [], length, codes, Option, option_map, refl, ap, arith}
 use Rattle.std.specs.Result.{result_err}
 use Rattle.std.specs.List.{AllByRecursion}
 use Rattle.hex.specs.Hex.{IsBytes}
 use Rattle.vk_residue.specs.Residue.{modulus}
-use Rattle.vk_residue.specs.Steps.{◌>>=◌}
-use Rattle.vk_lines.specs.Lines.{Rest, line_by}
-use Rattle.vk_lines.specs.Forms.{line, spaced, is_plain, IsLine, IsPart, IsWhole, EachAfter, Follows, FindsFaults, fault_line, whole}
-use Rattle.vk_lines.specs.Tokens.{hex_text, id_line, number_line, word_of}
-use Rattle.vk_lines.proofs.Words.{decimal_token, hex_token, number_line_is, id_line_is, digests_line_is, three_line, line_same, from_test, to_test, InRange, below_from, below_to}
+use Rattle.vk_lines.specs.Lines.{line_by}
+use Rattle.vk_lines.specs.Forms.{is_plain, IsLine, IsPart, IsWhole, Follows, FindsFaults, fault_line, whole}
+use Rattle.vk_lines.specs.Tokens.{id_line, number_line, word_of}
+use Rattle.vk_lines.proofs.Words.{decimal_token, hex_token, number_line_is, id_line_is, digests_line_is, three_line, line_same, from_test, to_test, below_from, below_to}
 use Rattle.vk_lines.proofs.Parts.{line_part, many_part, part_headed, part_then, part_last, part_same, whole_then, whole_last, whole_end, whole_same, each_from_all, all_from_each}
 use Rattle.vk_lines.proofs.Faults.{line_follows, many_follows, follows_then, follows_done, ends_then, ends_made, end_ends, ends_done, fault_line_is}
 use Rattle.vk_wire.specs.Coms.{com_by}
 use Rattle.vk_wire.specs.Values.{IsCom}
-use Rattle.vk_seal.specs.declared.secret.Secret.{Secret}
-use Rattle.vk_seal.specs.declared.secret.Seal.{Seal}
 use Rattle.vk_seal.specs.Values.{IsSeal, IsSecret, IsXTape}
 use Rattle.vk_seal.specs.Texts.{com_text, tape_text, seat_text, lanes_text, seal_text, secret_text}
 use Rattle.vk_seal.specs.Reading.{com_line, com_at, tape_by, tape_line, tape_at, seat_at, lanes_at, seal_with, seal_at, secret_with, secret_at}
@@ -47,42 +44,16 @@ tape_line_is lane =
 abbrev IsPlace : List ℕ × ℕ → Type 0
 IsPlace place = ((length place.0 ≡ 16) × IsBytes place.0) × ((1 ≤ place.1) × (place.1 ≤ 65535))
 
--- what is read from the seat and from the id on
-abbrev SeatOf : List ℕ → List ℕ × ℕ → Type 0
-SeatOf auction place = InRange 1 65535 place.1 × (place ≡ (auction, place.1))
-
-abbrev IdOf : List ℕ × ℕ → Type 0
-IdOf place = ((length place.0 ≡ 16) × IsBytes place.0) × SeatOf place.0 place
-
-abbrev seat_line : List ℕ × ℕ → List ℕ
-seat_line place = line (spaced (codes "seat" ∷ decimal place.1 ∷ []))
-
-abbrev id_text : List ℕ × ℕ → List ℕ
-id_text place = line (spaced (codes "auction" ∷ hex_text place.0 ∷ [])) ++ seat_line place
-
-abbrev place_at : List ℕ → Rest → Result ((List ℕ × ℕ) × Rest) ℕ
-place_at auction rest = line_by (number_line (codes "seat") 1 65535) rest >>= λ seat.
-    Ok ((auction, seat.0), seat.1)
-
-abbrev id_at : Rest → Result ((List ℕ × ℕ) × Rest) ℕ
-id_at rest = line_by (id_line (codes "auction")) rest >>= λ auction. place_at auction.0 auction.1
-
-seat_part : (auction : List ℕ) → IsPart (SeatOf auction) seat_line (place_at auction)
-seat_part auction = part_last (λ place. place.1) (λ seat. (auction, seat)) (λ seat. refl)
-    (line_part (number_line_is (codes "seat") 1 65535 refl (omega arith) (omega arith)))
-
-id_part : IsPart IdOf id_text id_at
-id_part =
-    part_then {IsZ = λ auction place. SeatOf auction place}
-    {text_z = λ auction place. seat_line place} (λ place. place.0)
-    (line_part (id_line_is (codes "auction") refl (omega arith))) (λ auction _. seat_part auction)
-    (λ auction place is. ap (λ p. p.0) is.1)
-
 place_is_part : (heading : List ℕ) → is_plain heading ≡ true → length heading ≤ 255
     → IsPart IsPlace (λ place. seat_text heading place.0 place.1) (seat_at heading)
 unfolding seat_at seat_text
 place_is_part heading plain short =
-    part_same (part_headed heading plain short id_part)
+    part_same (part_headed heading plain short (
+    part_then (λ place. place.0) (line_part (id_line_is (codes "auction") refl (omega arith)))
+    (λ auction _. part_last (λ place. place.1) (λ seat. (auction, seat)) (λ seat. refl)
+    (line_part (number_line_is (codes "seat") 1 65535 refl (omega arith) (omega arith))))
+    (λ auction place is. ap (λ p. p.0) is.1)
+    ))
     (λ place is. (is.0, (from_test 1 place.1 is.1.0.1, is.1.0.0)))
     (λ place is. (is.0, ((is.1.1, to_test 1 place.1 is.1.0), refl)))
     (λ place. refl)
@@ -92,25 +63,15 @@ place_is_part heading plain short =
 abbrev AreLanes : {X : Type 0} → (X → Type 0) → List X → Type 0
 AreLanes IsValue lanes = (1 ≤ length lanes) × (length lanes ≤ 64) × AllByRecursion IsValue lanes
 
-abbrev CountOf : {X : Type 0} → (X → Type 0) → ℕ → List X → Type 0
-CountOf IsValue count lanes = ((length lanes ≡ count) × EachAfter (λ _. IsValue) [] lanes)
-    × (lanes ≡ lanes)
-
-abbrev count_text : {X : Type 0} → (X → List ℕ) → List X → List ℕ
-count_text text lanes = flat_map (λ lane. line (text lane)) lanes ++ line (codes "end")
-
 lanes_is_whole : {X : Type 0} {IsValue : X → Type 0} {text : X → List ℕ}
     {parse : ℕ → List ℕ → Option X} → ((lane : ℕ) → IsLine IsValue text (parse lane))
     → IsWhole (AreLanes IsValue) (lanes_text text) (lanes_at parse)
 unfolding lanes_at lanes_text
-lanes_is_whole {IsValue = IsValue} {text = text} {parse = parse} form =
+lanes_is_whole {IsValue = IsValue} form =
     whole_same (
-    whole_then {IsZ = λ count lanes. CountOf IsValue count lanes}
-    {text_z = λ count lanes. count_text text lanes} (λ lanes. length lanes)
+    whole_then (λ lanes. length lanes)
     (line_part (number_line_is (codes "lanes") 1 64 refl (omega arith) (omega arith)))
-    (λ count _.
-    whole_then {IsZ = λ read lanes. lanes ≡ read} {text_z = λ read lanes. line (codes "end")}
-    (λ lanes. lanes)
+    (λ count _. whole_then (λ lanes. lanes)
     (many_part count (λ before. line_part (form (length before)))) (λ read _. whole_end read)
     (λ read lanes same. same))
     (λ count lanes is. is.0.0)
@@ -128,15 +89,11 @@ lanes_is_whole {IsValue = IsValue} {text = text} {parse = parse} form =
 
 -- ---- a seal and a secret
 
-abbrev SealOf : List ℕ × ℕ → Seal → Type 0
-SealOf place seal = AreLanes IsCom seal.lanes × (seal ≡ seal_with place seal.lanes)
-
 pub seal_is_whole : IsWhole IsSeal seal_text seal_at
 unfolding seal_text seal_at
 seal_is_whole =
     whole_same (
-    whole_then {IsZ = λ place seal. SealOf place seal}
-    {text_z = λ place seal. lanes_text com_text seal.lanes} (λ seal. (seal.auction, seal.seat))
+    whole_then (λ seal. (seal.auction, seal.seat))
     (place_is_part (codes "vickrey-seal 1") refl (omega arith))
     (λ place _. whole_last (λ seal. seal.lanes) (seal_with place) (λ lanes. refl)
     (lanes_is_whole com_line_is))
@@ -155,37 +112,17 @@ seal_is_whole =
     ))
     (λ seal. refl)
 
-abbrev TapesOf : List ℕ × ℕ → ℕ → Secret → Type 0
-TapesOf place bid secret = AreLanes IsXTape secret.lanes
-    × (secret ≡ secret_with place bid secret.lanes)
-
-abbrev BidOf : List ℕ × ℕ → Secret → Type 0
-BidOf place secret = InRange 0 (2 ^ 40 - 1) secret.bid × TapesOf place secret.bid secret
-
-abbrev bid_text : Secret → List ℕ
-bid_text secret = line (spaced (codes "bid" ∷ decimal secret.bid ∷ []))
-    ++ lanes_text tape_text secret.lanes
-
-bid_whole : (place : List ℕ × ℕ)
-    → IsWhole (BidOf place) bid_text
-    (λ rest. line_by (number_line (codes "bid") 0 (2 ^ 40 - 1)) rest >>= λ bid.
-    lanes_at tape_at bid.1 >>= λ lanes. Ok (secret_with place bid.0 lanes.0, lanes.1))
-bid_whole place =
-    whole_then {IsZ = λ bid secret. TapesOf place bid secret}
-    {text_z = λ bid secret. lanes_text tape_text secret.lanes} (λ secret. secret.bid)
-    (line_part (number_line_is (codes "bid") 0 (2 ^ 40 - 1) refl (omega arith) (omega arith)))
-    (λ bid _. whole_last (λ secret. secret.lanes) (secret_with place bid) (λ lanes. refl)
-    (lanes_is_whole tape_line_is))
-    (λ bid secret is. ap (λ s. s.bid) is.1)
-
 pub secret_is_whole : IsWhole IsSecret secret_text secret_at
 unfolding secret_text secret_at
 secret_is_whole =
     whole_same (
-    whole_then {IsZ = λ place secret. BidOf place secret} {text_z = λ place secret. bid_text secret}
-    (λ secret. (secret.auction, secret.seat))
-    (place_is_part (codes "vickrey-secret 1") refl (omega arith))
-    (λ place _. bid_whole place)
+    whole_then (λ secret. (secret.auction, secret.seat))
+    (place_is_part (codes "vickrey-secret 1") refl (omega arith)) (λ place _.
+    whole_then (λ secret. secret.bid)
+    (line_part (number_line_is (codes "bid") 0 (2 ^ 40 - 1) refl (omega arith) (omega arith)))
+    (λ bid _. whole_last (λ secret. secret.lanes) (secret_with place bid) (λ lanes. refl)
+    (lanes_is_whole tape_line_is))
+    (λ bid secret is. ap (λ s. s.bid) is.1))
     (λ place secret is. ap (λ s. (s.auction, s.seat)) is.1.1)
     )
     (λ secret is. record {
