@@ -1,7 +1,6 @@
 -- What is kept is an auction, and stands under its own id.
-use Rattle.std.proofs.Common.{◌≡◌, ℕ, ◌<◌, ◌≤◌, ◌^◌, ◌==◌, true, List, length, Option, Some, None, IfSome, refl, sym, subst, arith, rules}
+use Rattle.std.proofs.Common.{◌≡◌, ℕ, ◌<◌, ◌≤◌, ◌^◌, ◌==◌, true, List, length, Option, None, IfSome, refl, sym, subst, arith, rules}
 use Rattle.std.specs.Bool.{then_some}
-use Rattle.std.specs.Option.{option_or}
 use Rattle.std.specs.FinMap.{empty, get, get-empty}
 use Rattle.std.proofs.lemmas.Bool.Decides.{Decides-eqb, nat_tests}
 use Rattle.std.proofs.lemmas.Grind.{common_steps}
@@ -9,14 +8,12 @@ use Rattle.std.proofs.lemmas.List.Elements.{All-nil}
 use Rattle.vk_residue.specs.Limits.{IsSize}
 use Rattle.vk_commit.specs.Values.{AreBytes}
 use Rattle.vk_keeper.specs.declared.auction.Auction.{Auction}
-use Rattle.vk_keeper.specs.declared.auction.Phase.{Phase}
 use Rattle.vk_keeper.specs.declared.auction.Phase.TheVariants.{Taking, Proved, Answered}
 use Rattle.vk_keeper.specs.Auctions.{IsAuction, IsSealRow, IsTerms}
 use Rattle.vk_keeper.specs.Ledgers.{Ledger, IsKeptUnder, IsLedger}
 use Rattle.vk_keeper.proofs.Firsts.{first_terms}
 use Rattle.vk_keeper.proofs.Joins.{may_join}
 use Rattle.vk_keeper.proofs.Rows.{in_phase as right_in_phase}
-use Rattle.vk_house.specs.declared.errors.HouseErr.{HouseErr}
 use Rattle.vk_house.specs.declared.errors.HouseErr.TheVariants.{NoSeals}
 use Rattle.vk_house.specs.Commands.{HouseCommand, id_of, IsHouseCommand}
 use Rattle.vk_house.specs.Replies.{HouseReply, new_auction}
