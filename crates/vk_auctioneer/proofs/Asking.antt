@@ -20,7 +20,6 @@ use Rattle.vk_house.specs.Once.{KeepsAnswers}
 use Rattle.vk_house.specs.Replies.{HouseReply, Refused}
 use Rattle.vk_house.specs.Steps.{HouseCall}
 use Rattle.vk_house.proofs.Once.{call_keeps}
-use Rattle.vk_effect.specs.declared.reading.Unread.TheVariants as unread
 use Rattle.vk_effect.specs.Effects.{Effect, SaidValue, stores}
 use Rattle.vk_effect.specs.Ends.{Acts}
 use Rattle.vk_effect.specs.Reading.{said_of_unread}

@@ -75,99 +75,90 @@ divided_begins name text old new (inr whole) = inr (whole_held name text old new
 abbrev pub AreProved : Result JobValue HouseErr → Type 0
 AreProved answer = IfOk answer (λ job. IsProvedAuction job.auction)
 
-board_begun : (id seed board : List ℕ) (auction : Auction) (old new : Files)
-    → IsProvedWith id seed auction → (new ≡ old) ⊎ HoldsFirst board (board_of auction) old new
-    → LeavesStopped (Prove id seed board) old new
-board_begun id seed board auction old new is (inl same) = inl same
-board_begun id seed board auction old new is (inr first) = inr (auction, is, first)
+module _ (id seed board : List ℕ) where
+  board_begun : (auction : Auction) (old new : Files) → IsProvedWith id seed auction
+      → (new ≡ old) ⊎ HoldsFirst board (board_of auction) old new
+      → LeavesStopped (Prove id seed board) old new
+  board_begun auction old new is (inl same) = inl same
+  board_begun auction old new is (inr first) = inr (auction, is, first)
 
-pub board_left : (id seed board : List ℕ) (answer : Result JobValue HouseErr)
-    (result : Result SaidValue OutsideErr) (held now : Option Files)
-    → Says (house.Prove id seed) (as_reply work_of answer) result
-    → Modelled (Leaves (board_file board (as_reply work_of answer)) result) held now
-    → IfOk answer (λ job. job.auction.id ≡ id)
-    → IfOk answer (λ job. seed_of job.auction.phase ≡ Some seed) → AreProved answer
-    → LeavesAsSaid (Prove id seed board) result held now
-board_left id seed board answer result None now says left id_is seed_is proved = left
-board_left id seed board answer result (Some old) None says left id_is seed_is proved = absurd left
-board_left id seed board (Ok job) (Err stop) (Some old) (Some new) says left id_is seed_is proved =
-    board_begun id seed board job.auction old new
-    (record { id_is = id_is; proved = proved; seed_is = seed_is })
-    (divided_begins board (board_of job.auction) old new left)
-board_left id seed board (Err refusal) (Err stop) (Some old) (Some new) says left id_is seed_is
-    proved = inl left
-board_left id seed board (Ok job) (Ok said) (Some old) (Some new) says left id_is seed_is proved =
-    files_done (Prove id seed board) said old new (ap (λ (s : SaidValue). s.status) says.1) (
-      job.auction,
-      record {
-        is = record { id_is = id_is; proved = proved; seed_is = seed_is };
-        files_are = left;
-      },
-    )
-board_left id seed board (Err refusal) (Ok said) (Some old) (Some new) says left id_is seed_is
-    proved =
-    files_refused (Prove id seed board) said old new
-    (λ is_done. omega (arith, ap (λ (s : SaidValue). s.status) says.1, is_done)) left
+  pub board_left : (answer : Result JobValue HouseErr) (result : Result SaidValue OutsideErr)
+      (held now : Option Files) → Says (house.Prove id seed) (as_reply work_of answer) result
+      → Modelled (Leaves (board_file board (as_reply work_of answer)) result) held now
+      → IfOk answer (λ job. job.auction.id ≡ id)
+      → IfOk answer (λ job. seed_of job.auction.phase ≡ Some seed) → AreProved answer
+      → LeavesAsSaid (Prove id seed board) result held now
+  board_left answer result None now says left id_is seed_is proved = left
+  board_left answer result (Some old) None says left id_is seed_is proved = absurd left
+  board_left (Ok job) (Err stop) (Some old) (Some new) says left id_is seed_is proved =
+      board_begun job.auction old new
+      (record { id_is = id_is; proved = proved; seed_is = seed_is })
+      (divided_begins board (board_of job.auction) old new left)
+  board_left (Err refusal) (Err stop) (Some old) (Some new) says left id_is seed_is proved =
+      inl left
+  board_left (Ok job) (Ok said) (Some old) (Some new) says left id_is seed_is proved =
+      files_done (Prove id seed board) said old new (ap (λ (s : SaidValue). s.status) says.1) (
+        job.auction,
+        record {
+          is = record { id_is = id_is; proved = proved; seed_is = seed_is };
+          files_are = left;
+        },
+      )
+  board_left (Err refusal) (Ok said) (Some old) (Some new) says left id_is seed_is proved =
+      files_refused (Prove id seed board) said old new
+      (λ is_done. omega (arith, ap (λ (s : SaidValue). s.status) says.1, is_done)) left
 
 -- ---- `answer`
 
-answered_by : (id name : List ℕ) (challenge : Challenge) (auction : Auction) (files : Files)
-    → auction.id ≡ id → IsProvedAuction auction → challenge_of auction.phase ≡ Some challenge
-    → IsText files name challenge → HasAnswered id name files auction challenge
-answered_by id name challenge auction files id_is proved answered text =
-    let bits = subst (λ found. IfSome found (λ (c : Challenge). length c.bits ≡ auction.lanes))
-    answered proved.right.held.bits in
-    record {
-      id_is = id_is;
-      proved = proved;
-      asked = record { right = text.right; one_bit_each = bits };
-      answered = answered;
-      read = text;
-    }
+module _ (id name reply : List ℕ) (challenge : Challenge) where
+  answered_by : (auction : Auction) (files : Files) → auction.id ≡ id → IsProvedAuction auction
+      → challenge_of auction.phase ≡ Some challenge → IsText files name challenge
+      → HasAnswered id name files auction challenge
+  answered_by auction files id_is proved answered text =
+      let bits = subst (λ found. IfSome found (λ (c : Challenge). length c.bits ≡ auction.lanes))
+      answered proved.right.held.bits in
+      record {
+        id_is = id_is;
+        proved = proved;
+        asked = record { right = text.right; one_bit_each = bits };
+        answered = answered;
+        read = text;
+      }
 
-reply_begun : (id name reply : List ℕ) (challenge : Challenge) (auction : Auction)
-    (old new : Files) → HasAnswered id name old auction challenge
-    → (new ≡ old) ⊎ HoldsFirst reply (reply_of auction challenge) old new
-    → LeavesStopped (Answer id name reply) old new
-reply_begun id name reply challenge auction old new is (inl same) = inl same
-reply_begun id name reply challenge auction old new is (inr first) =
-    inr (auction, (challenge, is, first))
+  reply_begun : (auction : Auction) (old new : Files) → HasAnswered id name old auction challenge
+      → (new ≡ old) ⊎ HoldsFirst reply (reply_of auction challenge) old new
+      → LeavesStopped (Answer id name reply) old new
+  reply_begun auction old new is (inl same) = inl same
+  reply_begun auction old new is (inr first) = inr (auction, (challenge, is, first))
 
-pub reply_left : (id name reply : List ℕ) (challenge : Challenge)
-    (answer : Result JobValue HouseErr) (result : Result SaidValue OutsideErr)
-    (held now : Option Files) → Says (house.Answer id challenge) (as_reply work_of answer) result
-    → Modelled (Leaves (reply_file reply challenge (as_reply work_of answer)) result) held now
-    → IfOk answer (λ job. job.auction.id ≡ id)
-    → IfOk answer (λ job. challenge_of job.auction.phase ≡ Some challenge) → AreProved answer
-    → IfSome held (λ files. IsText files name challenge)
-    → LeavesAsSaid (Answer id name reply) result held now
-reply_left id name reply challenge answer result None now says left id_is answered proved text =
-    left
-reply_left id name reply challenge answer result (Some old) None says left id_is answered proved
-    text = absurd left
-reply_left id name reply challenge (Ok job) (Err stop) (Some old) (Some new) says left id_is
-    answered proved text =
-    reply_begun id name reply challenge job.auction old new
-    (answered_by id name challenge job.auction old id_is proved answered text)
-    (divided_begins reply (reply_of job.auction challenge) old new left)
-reply_left id name reply challenge (Err refusal) (Err stop) (Some old) (Some new) says left id_is
-    answered proved text = inl left
-reply_left id name reply challenge (Ok job) (Ok said) (Some old) (Some new) says left id_is answered
-    proved text =
-    files_done (Answer id name reply) said old new (ap (λ (s : SaidValue). s.status) says.1) (
-      job.auction,
-      (
-        challenge,
-        record {
-          is = answered_by id name challenge job.auction old id_is proved answered text;
-          files_are = left;
-        },
-      ),
-    )
-reply_left id name reply challenge (Err refusal) (Ok said) (Some old) (Some new) says left id_is
-    answered proved text =
-    files_refused (Answer id name reply) said old new
-    (λ is_done. omega (arith, ap (λ (s : SaidValue). s.status) says.1, is_done)) left
+  pub reply_left : (answer : Result JobValue HouseErr) (result : Result SaidValue OutsideErr)
+      (held now : Option Files) → Says (house.Answer id challenge) (as_reply work_of answer) result
+      → Modelled (Leaves (reply_file reply challenge (as_reply work_of answer)) result) held now
+      → IfOk answer (λ job. job.auction.id ≡ id)
+      → IfOk answer (λ job. challenge_of job.auction.phase ≡ Some challenge) → AreProved answer
+      → IfSome held (λ files. IsText files name challenge)
+      → LeavesAsSaid (Answer id name reply) result held now
+  reply_left answer result None now says left id_is answered proved text = left
+  reply_left answer result (Some old) None says left id_is answered proved text = absurd left
+  reply_left (Ok job) (Err stop) (Some old) (Some new) says left id_is answered proved text =
+      reply_begun job.auction old new (answered_by job.auction old id_is proved answered text)
+      (divided_begins reply (reply_of job.auction challenge) old new left)
+  reply_left (Err refusal) (Err stop) (Some old) (Some new) says left id_is answered proved text =
+      inl left
+  reply_left (Ok job) (Ok said) (Some old) (Some new) says left id_is answered proved text =
+      files_done (Answer id name reply) said old new (ap (λ (s : SaidValue). s.status) says.1) (
+        job.auction,
+        (
+          challenge,
+          record {
+            is = answered_by job.auction old id_is proved answered text;
+            files_are = left;
+          },
+        ),
+      )
+  reply_left (Err refusal) (Ok said) (Some old) (Some new) says left id_is answered proved text =
+      files_refused (Answer id name reply) said old new
+      (λ is_done. omega (arith, ap (λ (s : SaidValue). s.status) says.1, is_done)) left
 
 -- its challenge was read, which left all files, and the command went on
 text_read : (name : List ℕ) (challenge : Challenge) (files : Option Files)

@@ -6,8 +6,6 @@ use Rattle.std.specs.FinMap.{get}
 use Rattle.std.specs.Option.{option_or}
 use Rattle.std.specs.Str.{bytes_eq}
 use Rattle.std.proofs.lemmas.Bool.Decides.{Decides-eqb}
-use Rattle.std.proofs.lemmas.Option.{same_Some}
-use Rattle.std.proofs.lemmas.Slice.Eq.{bytes_eq-Decides}
 use Rattle.vk_reply.specs.declared.challenge.Challenge.{Challenge}
 use Rattle.vk_keeper.specs.declared.auction.Auction.{Auction}
 use Rattle.vk_keeper.specs.declared.auction.Phase.{Phase}
@@ -19,11 +17,12 @@ use Rattle.vk_job.specs.Jobs.{IsProvedAuction, dry_in, sale_in}
 use Rattle.vk_house.specs.declared.errors.HouseErr.{HouseErr}
 use Rattle.vk_house.specs.declared.errors.HouseErr.TheVariants.{OtherSeed}
 use Rattle.vk_house.specs.Commands.{HouseCommand, Prove, Answer, id_of, IsHouseCommand}
+use Rattle.vk_house.specs.Tests.{dry_seed}
 use Rattle.vk_house.specs.Refusals.{refusal_of, refusals_of}
 use Rattle.vk_house.specs.Replies.{HouseReply, Work, reply_to}
 use Rattle.vk_house.specs.Steps.{step_by, step_at, kept_by, in_phase, house_step}
-use Rattle.vk_house.proofs.Deciding.{challenge_with, dry_in_phase, kept_same}
-use Rattle.vk_house.proofs.Passing.{none_holds, nothing_there, test_passed}
+use Rattle.vk_house.proofs.Deciding.{challenge_with, dry_in_phase, kept_same, same_seed}
+use Rattle.vk_house.proofs.Passing.{none_holds, nothing_there}
 use Rattle.vk_house.proofs.Rights.{call_right}
 use Rattle.vk_house.proofs.Stepping.{here_after}
 use Rattle.vk_auctioneer.specs.Lines.{reply_said}
@@ -111,41 +110,36 @@ pub record Seeded (auction : Auction) (seed : List ℕ) : Type 0 where
   pub seed_is : seed_of auction.phase ≡ Some seed
   pub tapes : dry_in auction seed ≡ None
 
-kept_seed : (kept seed : List ℕ) → then_some (not (bytes_eq kept seed)) (OtherSeed kept) ≡ None
-    → kept ≡ seed
-kept_seed kept seed none = (bytes_eq-Decides kept seed).0
-    (test_passed (bytes_eq kept seed) (OtherSeed kept) none)
+-- where the kept seed is the given one
+seeded_as : (auction : Auction) (kept seed : List ℕ) → seed_of auction.phase ≡ Some kept
+    → then_some (not (bytes_eq kept seed)) (OtherSeed kept) ≡ None
+    → dry_seed (dry_in auction seed) ≡ None → Seeded auction seed
+seeded_as auction kept seed is same none = record {
+  seed_is = is ∙ ap Some (same_seed kept seed same);
+  tapes = nothing_there _ (dry_in auction seed) none;
+}
 
-prove_by : (asked seed : List ℕ) (held : Auction) (phase : Phase) (later : Auction)
+prove_by : (asked seed : List ℕ) (held : Auction) (phase : Phase)
     → let auction = in_phase held phase in refusal_of (Prove asked seed) (Some auction) ≡ None
-    → option_or (kept_by (Prove asked seed) (Some auction)) (Some auction) ≡ Some later
-    → Seeded later seed
+    → IfSome (option_or (kept_by (Prove asked seed) (Some auction)) (Some auction))
+    (λ later. Seeded later seed)
 unfolding first_of
-prove_by asked seed held Taking later passes is =
+prove_by asked seed held Taking passes =
     let auction = in_phase held Taking in
     let tests = none_holds (refusals_of (Prove asked seed) (Some auction)) passes in
-    subst (λ a. Seeded a seed) (same_Some (in_phase auction (Proved seed)) later is)
-    (record {
+    record {
       seed_is = refl;
       tapes = dry_in_phase auction (Proved seed) seed
           ∙ nothing_there _ (dry_in auction seed) tests.1.1.1.0;
-    })
-prove_by asked seed held (Proved kept) later passes is =
+    }
+prove_by asked seed held (Proved kept) passes =
     let auction = in_phase held (Proved kept) in
     let tests = none_holds (refusals_of (Prove asked seed) (Some auction)) passes in
-    subst (λ a. Seeded a seed) (same_Some auction later is)
-    (record {
-      seed_is = ap Some (kept_seed kept seed tests.1.1.0);
-      tapes = nothing_there _ (dry_in auction seed) tests.1.1.1.0;
-    })
-prove_by asked seed held (Answered kept challenge) later passes is =
+    seeded_as auction kept seed refl tests.1.1.0 tests.1.1.1.0
+prove_by asked seed held (Answered kept challenge) passes =
     let auction = in_phase held (Answered kept challenge) in
     let tests = none_holds (refusals_of (Prove asked seed) (Some auction)) passes in
-    subst (λ a. Seeded a seed) (same_Some auction later is)
-    (record {
-      seed_is = ap Some (kept_seed kept seed tests.1.1.0);
-      tapes = nothing_there _ (dry_in auction seed) tests.1.1.1.0;
-    })
+    seeded_as auction kept seed refl tests.1.1.0 tests.1.1.1.0
 
 pub prove_seeds : (asked seed : List ℕ) (found : Option Auction) (later : Auction)
     → refusal_of (Prove asked seed) found ≡ None
@@ -153,7 +147,8 @@ pub prove_seeds : (asked seed : List ℕ) (found : Option Auction) (later : Auct
 unfolding first_of
 prove_seeds asked seed None later passes is = cc
 prove_seeds asked seed (Some auction) later passes is =
-    prove_by asked seed auction auction.phase later passes is
+    subst (λ found. IfSome found (λ (a : Auction). Seeded a seed)) is
+    (prove_by asked seed auction auction.phase passes)
 
 -- ---- `answer`
 
@@ -164,33 +159,27 @@ pub record Challenged (auction : Auction) (challenge : Challenge) : Type 0 where
   pub challenge_is : challenge_of auction.phase ≡ Some challenge
 
 answer_by : (asked : List ℕ) (challenge : Challenge) (held : Auction) (phase : Phase)
-    (later : Auction) → let auction = in_phase held phase in
-    refusal_of (Answer asked challenge) (Some auction) ≡ None
-    → option_or (kept_by (Answer asked challenge) (Some auction)) (Some auction) ≡ Some later
-    → Challenged later challenge
+    → let auction = in_phase held phase in refusal_of (Answer asked challenge) (Some auction) ≡ None
+    → IfSome (option_or (kept_by (Answer asked challenge) (Some auction)) (Some auction))
+    (λ later. Challenged later challenge)
 unfolding first_of
-answer_by asked challenge held Taking later passes is = cc
-answer_by asked challenge held (Proved seed) later passes is =
+answer_by asked challenge held Taking passes = cc
+answer_by asked challenge held (Proved seed) passes =
     let auction = in_phase held (Proved seed) in
     let tests = none_holds (refusals_of (Answer asked challenge) (Some auction)) passes in
     let tapes = dry_in_phase auction (Answered seed challenge) seed
     ∙ nothing_there _ (dry_in auction seed) tests.1.1.1.1.0 in
-    subst (λ a. Challenged a challenge)
-    (same_Some (in_phase auction (Answered seed challenge)) later is)
-    (record { seed = seed; seeded = record { seed_is = refl; tapes = tapes }; challenge_is = refl })
-answer_by asked challenge held (Answered seed kept) later passes is =
+    record { seed = seed; seeded = record { seed_is = refl; tapes = tapes }; challenge_is = refl }
+answer_by asked challenge held (Answered seed kept) passes =
     let auction = in_phase held (Answered seed kept) in
     let tests = none_holds (refusals_of (Answer asked challenge) (Some auction)) passes in
-    let same : Some kept ≡ Some challenge =
-    ap (λ bits. Some (challenge_with bits))
-    (kept_same challenge.bits kept.bits (nothing_there _ _ tests.1.1.1.0)) in
-    subst (λ a. Challenged a challenge) (same_Some auction later is)
-    (record {
+    let tapes = nothing_there _ (dry_in auction seed) tests.1.1.1.1.0 in
+    record {
       seed = seed;
-      seeded =
-          record { seed_is = refl; tapes = nothing_there _ (dry_in auction seed) tests.1.1.1.1.0 };
-      challenge_is = same;
-    })
+      seeded = record { seed_is = refl; tapes = tapes };
+      challenge_is = ap (λ bits. Some (challenge_with bits))
+          (kept_same challenge.bits kept.bits (nothing_there _ _ tests.1.1.1.0));
+    }
 
 pub answer_challenges : (asked : List ℕ) (challenge : Challenge) (found : Option Auction)
     (later : Auction) → refusal_of (Answer asked challenge) found ≡ None
@@ -199,7 +188,8 @@ pub answer_challenges : (asked : List ℕ) (challenge : Challenge) (found : Opti
 unfolding first_of
 answer_challenges asked challenge None later passes is = cc
 answer_challenges asked challenge (Some auction) later passes is =
-    answer_by asked challenge auction auction.phase later passes is
+    subst (λ found. IfSome found (λ (a : Auction). Challenged a challenge)) is
+    (answer_by asked challenge auction auction.phase passes)
 
 -- ---- a challenge that is asked first
 

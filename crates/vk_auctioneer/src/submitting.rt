@@ -18,9 +18,9 @@ use std::alloc::Global;
 use vk_effect::{Said, Unread, begin_named, named_value};
 use vk_house::{House, HouseErr};
 use vk_io::{OutsideErr, Shelf};
-use vk_keeper::{Keeper, SealRow};
+use vk_keeper::Keeper;
 use vk_residue::NoMemory;
-use vk_seal::{read_seal, read_secret};
+use vk_seal::{Seal, Secret, read_seal, read_secret};
 
 /// Hands the named seal and its secret in.
 pub fn submit<S: Shelf, K: Keeper + Drop>(
@@ -42,8 +42,9 @@ pub fn submit<S: Shelf, K: Keeper + Drop>(
         (S.Shelf.faults shelf.new) (K.faults keeper.old) (K.faults keeper.new) }
 {
     match row(alloc, shelf, seal, secret) {
-        Ok(row) => {
-            let said = hand_in(alloc, keeper, id, row);
+        Ok(read) => {
+            let (seal, secret) = read;
+            let said = hand_in(alloc, keeper, id, seal, secret);
             said
         }
         Err(unread) => unread.said_or_stopped(),
@@ -52,11 +53,17 @@ pub fn submit<S: Shelf, K: Keeper + Drop>(
 
 /// Reads the named seal and its secret.
 #[tactic(auto, unfolding(crate::specs::Inputs::row_in))]
-fn row<S: Shelf>(alloc: Global, shelf: &mut S, seal: &str, secret: &str) -> Result<SealRow, Unread>
+fn row<S: Shelf>(
+    alloc: Global,
+    shelf: &mut S,
+    seal: &str,
+    secret: &str,
+) -> Result<(Seal, Secret), Unread>
     ensures modelled { IfSome (S.held shelf.old)
-        (λ files. Gives said_of_unread (λ row. row) result (row_in files seal.now secret.now)) }
-    ensures seal { IfOk result (λ row. IsSeal row.seal) }
-    ensures secret { IfOk result (λ row. IsSecret row.secret) }
+        (λ files. Gives said_of_unread (λ read. record { seal = read.0; secret = read.1 }) result
+        (row_in files seal.now secret.now)) }
+    ensures seal { IfOk result (λ read. IsSeal read.0) }
+    ensures secret { IfOk result (λ read. IsSecret read.1) }
     ensures shelf { OnlyReads S.held S.Shelf.faults Unread.Failed result shelf.old shelf.new }
 {
     let mut seal_lines = begin_named(alloc, shelf, seal)?;
@@ -65,7 +72,7 @@ fn row<S: Shelf>(alloc: Global, shelf: &mut S, seal: &str, secret: &str) -> Resu
     let seal = named_value(alloc, seal, read)?;
     let read = read_secret(alloc, shelf, &mut secret_lines);
     let secret = named_value(alloc, secret, read)?;
-    Ok(SealRow { seal, secret })
+    Ok((seal, secret))
 }
 
 /// Hands a seal and its secret in.
@@ -73,15 +80,14 @@ fn hand_in<K: Keeper + Drop>(
     alloc: Global,
     keeper: &mut K,
     id: &[u8; 16],
-    row: SealRow,
+    seal: Seal,
+    secret: Secret,
 ) -> Result<Said, OutsideErr>
-    requires seal { IsSeal row.seal }
-    requires secret { IsSecret row.secret }
+    requires seal { IsSeal seal }
+    requires secret { IsSecret secret }
     ensures { AsksAlone K.ledger K.turns K.faults
-        (λ kept. asked no_file kept (Submit id.now row.seal row.secret)) result keeper.old
-        keeper.new }
+        (λ kept. asked no_file kept (Submit id.now seal secret)) result keeper.old keeper.new }
 {
-    let SealRow { seal, secret } = row;
     let seat = seal.seat;
     let answer = House::over(keeper).submit(id, seal, secret);
     let said = handed_in(alloc, seat, answer);

@@ -21,6 +21,7 @@ use Rattle.vk_words.specs.Orders.{HouseWords}
 use Rattle.vk_words.specs.Scripts.{script_words}
 use Rattle.vk_words.specs.Table.{commands, row_of}
 use Rattle.vk_ceremony.specs.Scripts.{Order, Over, Script, ScriptLine, closes, heading, heading_at, line_then, order_line, over_from, pieces, script_at, script_from, script_line, with_order}
+use Rattle.vk_ceremony.proofs.Writing.{not_true}
 use Rattle.vk_ceremony.specs.Forms.{AreOrders, Commands, Ended, Heading, fault_by, is_apart, place_after, script_table, script_text}
 
 -- ---- the table
@@ -96,10 +97,6 @@ script_fault script bytes = first_fault script (record { taken = 0; left = bytes
 -- no such byte in a text
 abbrev lacks : ℕ → List ℕ → Bool
 lacks mark text = list_all (λ byte. not (byte == mark)) text
-
-not_true : (test : Bool) → not test ≡ true → test ≡ false
-not_true true is = cc
-not_true false is = refl
 
 split_one : (mark : ℕ) (text : List ℕ) → lacks mark text ≡ true
     → slice_split (λ byte. byte == mark) text ≡ text ∷ []

@@ -2,21 +2,18 @@
 -- of the house.
 use Rattle.std.proofs.Common.{◌≡◌, ℕ, Bool, true, false, ◌||◌, if◌then◌else◌, List, [], ◌∷◌, Option, Some, None, option_map, Result, Ok, Err, refl, sym, ap, subst, ◌∙◌, inl, inr}
 use Rattle.std.specs.Prelude.{IsSomeAnd, IsTrue, IsFalse, option_and_then, ◌⊎◌}
-use Rattle.std.specs.FinMap.{get}
 use Rattle.std.specs.Result.{result_ok}
 use Rattle.std.proofs.lemmas.Option.{same_Some}
 use Rattle.vk_io.specs.Files.{Files}
 use Rattle.vk_io.specs.Writing.{written}
 use Rattle.vk_lines.specs.Lines.{Rest}
-use Rattle.vk_keeper.specs.declared.auction.Auction.{Auction}
 use Rattle.vk_keeper.specs.Ledgers.{Ledger}
 use Rattle.vk_house.specs.declared.errors.HouseErr.{HouseErr}
-use Rattle.vk_house.specs.declared.errors.HouseErr.TheVariants.{KeeperFailed, NoMemory}
-use Rattle.vk_house.specs.Commands.{HouseCommand, id_of}
+use Rattle.vk_house.specs.Commands.{HouseCommand}
 use Rattle.vk_house.specs.Commands as house
-use Rattle.vk_house.specs.Refusals.{refusal_of}
-use Rattle.vk_house.specs.Replies.{HouseReply, Refused, reply_to}
-use Rattle.vk_house.specs.Steps.{HouseCall, house_step, kept_by, ledger_after, step_at, step_by}
+use Rattle.vk_house.specs.Replies.{HouseReply, Refused}
+use Rattle.vk_house.specs.Steps.{HouseCall, house_step}
+use Rattle.vk_house.proofs.Stepping.{step_is_call}
 use Rattle.vk_effect.specs.Effects.{Effect, SaidValue, after, said_of, stores}
 use Rattle.vk_words.specs.Orders.{HouseWords, Announce, AnnounceReserve, Submit, Prove, Answer, Show}
 use Rattle.vk_auctioneer.specs.Effects.{Writes, asked, board_file, house_effect, if_read, no_file, reply_file}
@@ -26,47 +23,11 @@ use Rattle.vk_ceremony.specs.Ceremonies.{Ceremony, after_command, ceremony_behin
 use Rattle.vk_ceremony.specs.Runs.{asked_in, orders_behind, orders_in}
 use Rattle.vk_ceremony.specs.Scripts.{script_at, script_begun}
 
--- ---- a step is a call
-
--- a command that is done on an auction isn't refused
-no_refusal : (command : HouseCommand) (auction : Auction) (refusal : HouseErr)
-    → reply_to command (Some auction) ≡ Refused refusal → ⊥
-no_refusal (house.Announce id width lanes) auction refusal is = cc
-no_refusal (house.AnnounceReserve id width lanes reserve) auction refusal is = cc
-no_refusal (house.Submit id seal secret) auction refusal is = cc
-no_refusal (house.Prove id seed) auction refusal is = cc
-no_refusal (house.Answer id challenge) auction refusal is = cc
-no_refusal (house.Show id) auction refusal is = cc
-
-kept_none : (command : HouseCommand) (test : Option HouseErr) (found kept : Option Auction)
-    (refusal : HouseErr) → (step_by test command found kept).reply ≡ Refused refusal
-    → (step_by test command found kept).kept ≡ None
-kept_none command (Some given) found kept refusal is = refl
-kept_none command None found None refusal is = refl
-kept_none command None found (Some auction) refusal is =
-    absurd (no_refusal command auction refusal is)
-
--- a refusal leaves the ledger
-pub refused_stays : (ledger : Ledger) (command : HouseCommand) (refusal : HouseErr)
-    → (house_step ledger command).0 ≡ Refused refusal → (house_step ledger command).1 ≡ ledger
-unfolding step_at
-refused_stays ledger command refusal is =
-    let found = get ledger (id_of command) in
-    ap (ledger_after ledger (id_of command))
-    (kept_none command (refusal_of command found) found (kept_by command found) refusal is)
-
-call_by : (old new : Ledger) (command : HouseCommand) (reply : HouseReply)
-    → house_step old command ≡ (reply, new) → (reply ≡ Refused KeeperFailed → new ≡ old)
-    → (reply ≡ Refused NoMemory → new ≡ old) → HouseCall old command reply new
-call_by old new command (Refused KeeperFailed) is failed memory = failed refl
-call_by old new command (Refused NoMemory) is failed memory = memory refl
-call_by old new command reply is failed memory = is
-
+-- each step is a call
 pub step_call : (ledger : Ledger) (command : HouseCommand)
     → HouseCall ledger command (house_step ledger command).0 (house_step ledger command).1
 step_call ledger command =
-    call_by ledger (house_step ledger command).1 command (house_step ledger command).0 refl
-    (refused_stays ledger command KeeperFailed) (refused_stays ledger command NoMemory)
+    step_is_call ledger (house_step ledger command).1 command (house_step ledger command).0 refl
 
 -- ---- one command
 

@@ -17,8 +17,6 @@ use Rattle.vk_ceremony.specs.Ceremonies.{Ceremony, EndsAll, ceremony_on}
 use Rattle.vk_ceremony.specs.Runs.{asked_in, orders_in}
 use Rattle.vk_ceremony.proofs.Following.{Follow, ceremony_follows, ledger_by, ledger_left, order_reaches, order_told, told_each}
 
--- ---- one act
-
 -- what is done by an effect
 abbrev pub act_of : HouseWords → Files → Ledger → Effect → HouseAct
 act_of order files ledger effect = record {
@@ -30,39 +28,12 @@ act_of order files ledger effect = record {
   kept = ledger_by (asked_in files order) ledger;
 }
 
-kept_by_effect : (order : HouseWords) (files : Files) (ledger : Ledger) (effect : Effect)
-    → house_effect (Some files) (Some ledger) order ≡ Some effect
-    → effect.ledger ≡ Some (ledger_by (asked_in files order) ledger)
-kept_by_effect order files ledger effect is =
-    ledger_left (asked_in files order) ledger effect (order_reaches files ledger order effect is)
-
-abbrev is_act : (order : HouseWords) (files : Files) (ledger : Ledger) (effect : Effect)
-    → house_effect (Some files) (Some ledger) order ≡ Some effect
-    → IsAct (act_of order files ledger effect)
-is_act order files ledger effect is = record {
-  effect = effect;
-  effect_is = is;
-  said_is = refl;
-  left_is = refl;
-  kept_is = kept_by_effect order files ledger effect is;
-}
-
 -- ---- all of them were done
 
 -- these files and this ledger are outside
 record Holds (now : Outside) (files : Files) (ledger : Ledger) : Type 0 where
   held : now.files ≡ Some files
   kept : now.ledger ≡ Some ledger
-
-holds_after : (order : HouseWords) (files : Files) (ledger : Ledger) (effect : Effect)
-    (now : Outside) → Holds now files ledger
-    → house_effect (Some files) (Some ledger) order ≡ Some effect
-    → Holds (done effect now) (written effect.writes files)
-    (ledger_by (asked_in files order) ledger)
-holds_after order files ledger effect now holds is = record {
-  held = ap (option_map (written effect.writes)) holds.held;
-  kept = kept_by_effect order files ledger effect is;
-}
 
 -- the acts of effects: what is left by them is left by the effects
 record Reached (orders : List HouseWords) (files : Files) (ledger : Ledger) (effects : List Effect)
@@ -91,21 +62,150 @@ none_reached orders files ledger closing now holds = record {
   texts = refl;
 }
 
-abbrev first_reached : (order : HouseWords) (orders : List HouseWords) (files : Files)
-    (ledger : Ledger) (effect : Effect) (effects : List Effect) (closing : List ℕ) (now : Outside)
-    → house_effect (Some files) (Some ledger) order ≡ Some effect
-    → Reached orders (written effect.writes files) (ledger_by (asked_in files order) ledger) effects
-    closing (done effect now) → Reached (order ∷ orders) files ledger (effect ∷ effects) closing now
-first_reached order orders files ledger effect effects closing now is more = record {
-  acts = act_of order files ledger effect ∷ more.acts;
-  later = more.later;
-  orders_are = ap (λ others. order ∷ others) more.orders_are;
-  files_left = more.files_left;
-  ledger_left = more.ledger_left;
-  done = (refl, refl, is_act order files ledger effect is, more.done);
-  holds = more.holds;
-  texts = ap (λ text. effect.text ++ text) more.texts;
+-- nothing more was left after these acts
+left_so : (orders later : List HouseWords) (files : Files) (ledger : Ledger) (acts : List HouseAct)
+    (left : Files) (kept : Ledger) → orders ≡ map (λ act. act.order) acts ++ later
+    → AreActs acts files ledger left kept → Performs orders files ledger acts None left kept
+left_so orders later files ledger acts left kept orders_are done = record {
+  later = later;
+  orders_are = orders_are;
+  files_between = left;
+  ledger_between = kept;
+  done = done;
+  last = (refl, refl);
 }
+
+-- no order was done
+none_done : (orders : List HouseWords) (files : Files) (ledger : Ledger) (new : Outside)
+    → Holds new files ledger → PerformsSome orders files ledger new.files new.ledger
+none_done orders files ledger new holds = record {
+  acts = [];
+  stop = None;
+  files_left = files;
+  ledger_left = ledger;
+  held_is = holds.held;
+  kept_is = holds.kept;
+  performs = left_so orders orders files ledger [] files ledger refl (refl, refl);
+}
+
+divided_all : (writes : List (List ℕ × List ℕ)) (files : Files)
+    → IsDivided writes files (written writes files)
+divided_all [] files = refl
+divided_all (text ∷ writes) files = inr (divided_all writes _)
+
+found_of : {X : Type 0} (P : X → Type 0) (found : Option X) → IsSomeAnd found P
+    → (x : X) × (found ≡ Some x) × P x
+found_of P None is = absurd is
+found_of P (Some x) is = (x, refl, is)
+
+-- ---- the first order, by its effect
+
+module _ (order : HouseWords) (files : Files) (ledger : Ledger) (effect : Effect)
+    (is : house_effect (Some files) (Some ledger) order ≡ Some effect) where
+  abbrev act : HouseAct
+  act = act_of order files ledger effect
+
+  kept_by_effect : effect.ledger ≡ Some act.kept
+  kept_by_effect =
+      ledger_left (asked_in files order) ledger effect
+      (order_reaches files ledger order effect is)
+
+  abbrev is_act : IsAct act
+  is_act = record {
+    effect = effect;
+    effect_is = is;
+    said_is = refl;
+    left_is = refl;
+    kept_is = kept_by_effect;
+  }
+
+  holds_after : (now : Outside) → Holds now files ledger → Holds (done effect now) act.left act.kept
+  holds_after now holds = record {
+    held = ap (option_map (written effect.writes)) holds.held;
+    kept = kept_by_effect;
+  }
+
+  abbrev first_reached : (orders : List HouseWords) (effects : List Effect) (closing : List ℕ)
+      (now : Outside) → Reached orders act.left act.kept effects closing (done effect now)
+      → Reached (order ∷ orders) files ledger (effect ∷ effects) closing now
+  first_reached orders effects closing now more = record {
+    acts = act ∷ more.acts;
+    later = more.later;
+    orders_are = ap (λ others. order ∷ others) more.orders_are;
+    files_left = more.files_left;
+    ledger_left = more.ledger_left;
+    done = (refl, refl, is_act, more.done);
+    holds = more.holds;
+    texts = ap (λ text. effect.text ++ text) more.texts;
+  }
+
+  -- it was stopped
+  first_stopped : (orders : List HouseWords) (left : Files) (new : Outside)
+      → new.files ≡ Some left → new.ledger ≡ effect.ledger → IsDivided effect.writes files left
+      → PerformsSome (order ∷ orders) files ledger new.files new.ledger
+  first_stopped orders left new held_is ledger_is divided = record {
+    acts = [];
+    stop = Some act;
+    files_left = left;
+    ledger_left = act.kept;
+    held_is = held_is;
+    kept_is = ledger_is ∙ kept_by_effect;
+    performs = record {
+      later = order ∷ orders;
+      orders_are = refl;
+      files_between = files;
+      ledger_between = ledger;
+      done = (refl, refl);
+      last = record {
+        others = orders;
+        orders_are = refl;
+        files_are = refl;
+        ledger_is = refl;
+        is = is_act;
+        left_is = divided;
+        kept_is = refl;
+      };
+    };
+  }
+
+  -- it was done
+  first_done : (orders : List HouseWords) (held : Option Files) (kept : Option Ledger)
+      → PerformsSome orders act.left act.kept held kept
+      → PerformsSome (order ∷ orders) files ledger held kept
+  first_done orders held kept more = record {
+    acts = act ∷ more.acts;
+    stop = more.stop;
+    files_left = more.files_left;
+    ledger_left = more.ledger_left;
+    held_is = more.held_is;
+    kept_is = more.kept_is;
+    performs = record {
+      later = more.performs.later;
+      orders_are = ap (λ others. order ∷ others) more.performs.orders_are;
+      files_between = more.performs.files_between;
+      ledger_between = more.performs.ledger_between;
+      done = (refl, refl, is_act, more.performs.done);
+      last = more.performs.last;
+    };
+  }
+
+  order_stopped : (orders : List HouseWords) (now new : Outside) → Holds now files ledger
+      → Stopped effect now new
+      → PerformsSome (order ∷ orders) files ledger new.files new.ledger
+  order_stopped orders now new holds (inl same) =
+      none_done (order ∷ orders) files ledger new
+      (subst (λ left. Holds left files ledger) (sym same) holds)
+  order_stopped orders now new holds (inr (ledger_is, inl writing)) =
+      let left = found_of (IsDivided effect.writes files) new.files
+      (subst (λ held. Modelled (IsDivided effect.writes) held new.files) holds.held
+      writing.files_are) in
+      first_stopped orders left.0 new left.1 ledger_is left.2
+  order_stopped orders now new holds (inr (ledger_is, inr printing)) =
+      first_stopped orders (written effect.writes files) new
+      (printing.files_are ∙ ap (option_map (written effect.writes)) holds.held) ledger_is
+      (divided_all effect.writes files)
+
+-- ---- all of them were done
 
 -- and they go on to the last order, or to one that no order follows
 abbrev AllReached : List HouseWords → Files → Ledger → List Effect → List ℕ → Outside → Type 0
@@ -120,20 +220,18 @@ all_reached orders files ledger [] closing now holds none =
 all_reached [] files ledger (effect ∷ effects) closing now holds follows = absurd follows
 all_reached (order ∷ orders) files ledger (effect ∷ effects) closing now holds
     (is, inl (on, follows)) =
-    let more = all_reached orders (written effect.writes files)
-    (ledger_by (asked_in files order) ledger) effects closing (done effect now)
-    (holds_after order files ledger effect now holds is) follows in
-    (first_reached order orders files ledger effect effects closing now is more.0, inl (on, more.1))
+    let act = act_of order files ledger effect in
+    let more = all_reached orders act.left act.kept effects closing (done effect now)
+    (holds_after order files ledger effect is now holds) follows in
+    (first_reached order files ledger effect is orders effects closing now more.0, inl (on, more.1))
 all_reached (order ∷ orders) files ledger (effect ∷ effects) closing now holds
     (is, inr (ends, none)) =
-    let more = none_reached orders (written effect.writes files)
-    (ledger_by (asked_in files order) ledger) closing (done effect now)
-    (holds_after order files ledger effect now holds is) in
+    let act = act_of order files ledger effect in
+    let more = none_reached orders act.left act.kept closing (done effect now)
+    (holds_after order files ledger effect is now holds) in
     subst (λ others. AllReached (order ∷ orders) files ledger (effect ∷ others) closing now)
-    (sym none) (
-      first_reached order orders files ledger effect [] closing now is more,
-      inr (ends, refl),
-    )
+    (sym none)
+    (first_reached order files ledger effect is orders [] closing now more, inr (ends, refl))
 
 outside_holds : (files : Files) (ledger : Ledger) (taken : Option (List ℕ))
     → Holds (outside (stores (Some files) (Some ledger)) taken) files ledger
@@ -165,19 +263,6 @@ all_performed orders files ledger effects closing taken new follows is =
 
 -- ---- some of them were
 
--- nothing more was left after these acts
-left_so : (orders later : List HouseWords) (files : Files) (ledger : Ledger) (acts : List HouseAct)
-    (left : Files) (kept : Ledger) → orders ≡ map (λ act. act.order) acts ++ later
-    → AreActs acts files ledger left kept → Performs orders files ledger acts None left kept
-left_so orders later files ledger acts left kept orders_are done = record {
-  later = later;
-  orders_are = orders_are;
-  files_between = left;
-  ledger_between = kept;
-  done = done;
-  last = (refl, refl);
-}
-
 all_some : (orders : List HouseWords) (files : Files) (ledger : Ledger) (closing : List ℕ)
     (taken : Option (List ℕ)) (new : Outside) → PerformsAll orders files ledger closing taken new
     → PerformsSome orders files ledger new.files new.ledger
@@ -192,102 +277,6 @@ all_some orders files ledger closing taken new all = record {
       left_so orders all.later files ledger all.acts all.files_left all.ledger_left all.orders_are
       all.done;
 }
-
--- no order was done
-none_done : (orders : List HouseWords) (files : Files) (ledger : Ledger) (new : Outside)
-    → Holds new files ledger → PerformsSome orders files ledger new.files new.ledger
-none_done orders files ledger new holds = record {
-  acts = [];
-  stop = None;
-  files_left = files;
-  ledger_left = ledger;
-  held_is = holds.held;
-  kept_is = holds.kept;
-  performs = left_so orders orders files ledger [] files ledger refl (refl, refl);
-}
-
--- the first was stopped
-first_stopped : (order : HouseWords) (orders : List HouseWords) (files left : Files)
-    (ledger : Ledger) (effect : Effect) (new : Outside)
-    → house_effect (Some files) (Some ledger) order ≡ Some effect → new.files ≡ Some left
-    → new.ledger ≡ effect.ledger → IsDivided effect.writes files left
-    → PerformsSome (order ∷ orders) files ledger new.files new.ledger
-first_stopped order orders files left ledger effect new is held_is ledger_is divided = record {
-  acts = [];
-  stop = Some (act_of order files ledger effect);
-  files_left = left;
-  ledger_left = ledger_by (asked_in files order) ledger;
-  held_is = held_is;
-  kept_is = ledger_is ∙ kept_by_effect order files ledger effect is;
-  performs = record {
-    later = order ∷ orders;
-    orders_are = refl;
-    files_between = files;
-    ledger_between = ledger;
-    done = (refl, refl);
-    last = record {
-      others = orders;
-      orders_are = refl;
-      files_are = refl;
-      ledger_is = refl;
-      is = is_act order files ledger effect is;
-      left_is = divided;
-      kept_is = refl;
-    };
-  };
-}
-
--- the first was done
-first_done : (order : HouseWords) (orders : List HouseWords) (files : Files) (ledger : Ledger)
-    (effect : Effect) (held : Option Files) (kept : Option Ledger)
-    → house_effect (Some files) (Some ledger) order ≡ Some effect
-    → PerformsSome orders (written effect.writes files) (ledger_by (asked_in files order) ledger)
-    held kept → PerformsSome (order ∷ orders) files ledger held kept
-first_done order orders files ledger effect held kept is more = record {
-  acts = act_of order files ledger effect ∷ more.acts;
-  stop = more.stop;
-  files_left = more.files_left;
-  ledger_left = more.ledger_left;
-  held_is = more.held_is;
-  kept_is = more.kept_is;
-  performs = record {
-    later = more.performs.later;
-    orders_are = ap (λ others. order ∷ others) more.performs.orders_are;
-    files_between = more.performs.files_between;
-    ledger_between = more.performs.ledger_between;
-    done = (refl, refl, is_act order files ledger effect is, more.performs.done);
-    last = more.performs.last;
-  };
-}
-
--- ---- a stop
-
-divided_all : (writes : List (List ℕ × List ℕ)) (files : Files)
-    → IsDivided writes files (written writes files)
-divided_all [] files = refl
-divided_all (text ∷ writes) files = inr (divided_all writes _)
-
-found_of : {X : Type 0} (P : X → Type 0) (found : Option X) → IsSomeAnd found P
-    → (x : X) × (found ≡ Some x) × P x
-found_of P None is = absurd is
-found_of P (Some x) is = (x, refl, is)
-
-order_stopped : (order : HouseWords) (orders : List HouseWords) (files : Files) (ledger : Ledger)
-    (effect : Effect) (now new : Outside) → Holds now files ledger
-    → house_effect (Some files) (Some ledger) order ≡ Some effect → Stopped effect now new
-    → PerformsSome (order ∷ orders) files ledger new.files new.ledger
-order_stopped order orders files ledger effect now new holds is (inl same) =
-    none_done (order ∷ orders) files ledger new
-    (subst (λ left. Holds left files ledger) (sym same) holds)
-order_stopped order orders files ledger effect now new holds is (inr (ledger_is, inl writing)) =
-    let left = found_of (IsDivided effect.writes files) new.files
-    (subst (λ held. Modelled (IsDivided effect.writes) held new.files) holds.held
-    writing.files_are) in
-    first_stopped order orders files left.0 ledger effect new is left.1 ledger_is left.2
-order_stopped order orders files ledger effect now new holds is (inr (ledger_is, inr printing)) =
-    first_stopped order orders files (written effect.writes files) ledger effect new is
-    (printing.files_are ∙ ap (option_map (written effect.writes)) holds.held) ledger_is
-    (divided_all effect.writes files)
 
 -- the closing text was
 closing_stopped : (orders : List HouseWords) (files : Files) (ledger : Ledger) (closing : List ℕ)
@@ -306,18 +295,19 @@ orders_stopped orders files ledger [] closing now new holds follows stops =
 orders_stopped [] files ledger (effect ∷ effects) closing now new holds follows stops =
     absurd follows
 orders_stopped (order ∷ orders) files ledger (effect ∷ effects) closing now new holds (is, follows)
-    (inl stops) = order_stopped order orders files ledger effect now new holds is stops
+    (inl stops) = order_stopped order files ledger effect is orders now new holds stops
 orders_stopped (order ∷ orders) files ledger (effect ∷ effects) closing now new holds
     (is, inl (on, follows)) (inr stops) =
-    first_done order orders files ledger effect new.files new.ledger is
-    (orders_stopped orders (written effect.writes files) (ledger_by (asked_in files order) ledger)
-    effects closing (done effect now) new (holds_after order files ledger effect now holds is)
-    follows stops)
+    let act = act_of order files ledger effect in
+    first_done order files ledger effect is orders new.files new.ledger
+    (orders_stopped orders act.left act.kept effects closing (done effect now) new
+    (holds_after order files ledger effect is now holds) follows stops)
 orders_stopped (order ∷ orders) files ledger (effect ∷ effects) closing now new holds
     (is, inr (ends, none)) (inr stops) =
-    first_done order orders files ledger effect new.files new.ledger is
-    (closing_stopped orders (written effect.writes files) (ledger_by (asked_in files order) ledger)
-    closing (done effect now) new (holds_after order files ledger effect now holds is)
+    let act = act_of order files ledger effect in
+    first_done order files ledger effect is orders new.files new.ledger
+    (closing_stopped orders act.left act.kept closing (done effect now) new
+    (holds_after order files ledger effect is now holds)
     (subst (λ others. StopsAmong others closing (done effect now) new) none stops))
 
 -- ---- a ceremony
@@ -380,16 +370,16 @@ effect_performs : (files : Files) (ledger : Ledger) (order : HouseWords) (effect
     → Ends result effect (outside (stores (Some files) (Some ledger)) taken) new
     → PerformsSome (order ∷ []) files ledger new.files new.ledger
 effect_performs files ledger order effect taken (Ok status) new is ends =
-    first_done order [] files ledger effect new.files new.ledger is
-    (none_done [] (written effect.writes files) (ledger_by (asked_in files order) ledger) new
+    let act = act_of order files ledger effect in
+    first_done order files ledger effect is [] new.files new.ledger
+    (none_done [] act.left act.kept new
     (record {
       held = ends.files_are;
-      kept = ends.ledger_is
-          ∙ kept_by_effect order files ledger effect is;
+      kept = ends.ledger_is ∙ kept_by_effect order files ledger effect is;
     }))
 effect_performs files ledger order effect taken (Err stop) new is ends =
-    order_stopped order [] files ledger effect (outside (stores (Some files) (Some ledger)) taken)
-    new (outside_holds files ledger taken) is ends
+    order_stopped order files ledger effect is []
+    (outside (stores (Some files) (Some ledger)) taken) new (outside_holds files ledger taken) ends
 
 -- however a command of the house ended, it is an act, or none that was done
 pub command_performs : (files : Files) (ledger : Ledger) (order : HouseWords)

@@ -14,14 +14,14 @@ use Rattle.vk_house.specs.declared.errors.HouseErr.{HouseErr}
 use Rattle.vk_house.specs.Commands.{HouseCommand, IsHouseCommand}
 use Rattle.vk_house.specs.Commands as house
 use Rattle.vk_house.specs.Once.{KeepsAnswers}
-use Rattle.vk_house.specs.Replies.{HouseReply, Done, Position, Work, Stands, Refused}
+use Rattle.vk_house.specs.Replies.{HouseReply, Refused}
 use Rattle.vk_house.specs.Steps.{house_step}
 use Rattle.vk_house.proofs.Once.{call_keeps, keeps_on, keeps_same}
 use Rattle.vk_house.proofs.Rights.{call_right}
+use Rattle.vk_house.proofs.Stepping.{refused_stays}
 use Rattle.vk_effect.specs.Effects.{Effect, SaidValue}
-use Rattle.vk_words.specs.Orders.{HouseWords, Announce, AnnounceReserve, Submit, Prove, Answer, Show}
+use Rattle.vk_words.specs.Orders.{HouseWords, Submit, Answer}
 use Rattle.vk_words.specs.Scripts.{line_words, script_words}
-use Rattle.vk_auctioneer.specs.Effects.{house_effect}
 use Rattle.vk_auctioneer.specs.Inputs.{challenge_in, row_in}
 use Rattle.vk_auctioneer.specs.Laws.{AreHouseWords}
 use Rattle.vk_auctioneer.specs.Lines.{reply_said}
@@ -30,23 +30,16 @@ use Rattle.vk_auctioneer.proofs.Words.{script_each, then_each}
 use Rattle.vk_ceremony.specs.Acts.{AreActs, HouseAct, IsAct, IsStepOf, Performs, StopsAt}
 use Rattle.vk_ceremony.specs.Runs.{asked_in, orders_behind, orders_in}
 use Rattle.vk_ceremony.specs.Scripts.{Order, Over, Script, ScriptLine, closes, line_then, order_line, over_from, pieces, script_at, script_begun, script_from, script_line}
-use Rattle.vk_ceremony.proofs.Following.{Reaches, ledger_by, ledger_left, order_reaches, refused_stays, step_call}
+use Rattle.vk_ceremony.proofs.Following.{Reaches, ledger_by, ledger_left, order_reaches, step_call}
 
 -- ---- what one command leaves
 
--- the ledger that the effect of an order leaves
-kept_by_asking : (order : HouseWords) (files : Files) (ledger kept : Ledger) (effect : Effect)
-    → house_effect (Some files) (Some ledger) order ≡ Some effect → effect.ledger ≡ Some kept
-    → kept ≡ ledger_by (asked_in files order) ledger
-kept_by_asking order files ledger kept effect is kept_is =
-    same_Some kept (ledger_by (asked_in files order) ledger)
-    (sym kept_is ∙ ledger_left (asked_in files order) ledger effect
-    (order_reaches files ledger order effect is))
-
 act_kept : (act : HouseAct) → IsAct act
     → act.kept ≡ ledger_by (asked_in act.files act.order) act.ledger
-act_kept act is = kept_by_asking act.order act.files act.ledger act.kept is.effect is.effect_is
-    is.kept_is
+act_kept act is =
+    same_Some act.kept (ledger_by (asked_in act.files act.order) act.ledger)
+    (sym is.kept_is ∙ ledger_left (asked_in act.files act.order) act.ledger is.effect
+    (order_reaches act.files act.ledger act.order is.effect is.effect_is))
 
 -- it is a step of the house
 pub act_steps : (act : HouseAct) (command : HouseCommand) → IsAct act
@@ -61,11 +54,8 @@ act_steps act command is asks =
 -- a reply of another status than 0 is a refusal
 refusal_said : (command : HouseCommand) (reply : HouseReply) → (reply_said command reply).status ≢ 0
     → (refusal : HouseErr) × (reply ≡ Refused refusal)
-refusal_said command Done other = absurd (other refl)
-refusal_said command (Position position) other = absurd (other refl)
-refusal_said command (Work auction sale) other = absurd (other refl)
-refusal_said command (Stands standing) other = absurd (other refl)
 refusal_said command (Refused refusal) other = (refusal, refl)
+refusal_said command reply other = absurd (other refl)
 
 same_by : (asked : Option HouseCommand) (files : Files) (ledger : Ledger) (effect : Effect)
     → Reaches asked ledger effect → (asked ≡ None) ⊎ (effect.status ≢ 0)
@@ -82,11 +72,8 @@ same_by (Some command) files ledger effect reaches (inr other) =
 
 status_said : (command : HouseCommand) (reply : HouseReply)
     → ((reply_said command reply).status ≡ 0) ⊎ ((reply_said command reply).status ≡ 8)
-status_said command Done = inl refl
-status_said command (Position position) = inl refl
-status_said command (Work auction sale) = inl refl
-status_said command (Stands standing) = inl refl
 status_said command (Refused refusal) = inr refl
+status_said command reply = inl refl
 
 -- it is done or refused
 pub act_status : (act : HouseAct) (command : HouseCommand) → IsAct act
@@ -116,73 +103,70 @@ record Lasts (R : Ledger → Ledger → Type 0) (P : HouseWords → Type 0) : Ty
   one : (files : Files) (ledger : Ledger) (order : HouseWords) → P order
       → R ledger (ledger_by (asked_in files order) ledger)
 
-act_lasts : (R : Ledger → Ledger → Type 0) (P : HouseWords → Type 0) → Lasts R P → (act : HouseAct)
-    → P act.order → IsAct act → R act.ledger act.kept
-act_lasts R P lasts act may is =
-    subst (R act.ledger) (sym (act_kept act is)) (lasts.one act.files act.ledger act.order may)
-
-acts_last : (R : Ledger → Ledger → Type 0) (P : HouseWords → Type 0) → Lasts R P
-    → (acts : List HouseAct) (files : Files) (ledger : Ledger) (left : Files) (kept : Ledger)
-    → AllByRecursion P (map (λ (act : HouseAct). act.order) acts)
-    → AreActs acts files ledger left kept → R ledger kept
-acts_last R P lasts [] files ledger left kept may are =
-    subst (R ledger) (sym are.1) (lasts.same ledger)
-acts_last R P lasts (act ∷ acts) files ledger left kept may are =
-    lasts.further ledger act.kept kept
-    (subst (λ found. R found act.kept) are.1 (act_lasts R P lasts act may.0 are.2))
-    (acts_last R P lasts acts act.left act.kept left kept may.1 are.3)
-
-stop_lasts : (R : Ledger → Ledger → Type 0) (P : HouseWords → Type 0) → Lasts R P
-    → (stop : Option HouseAct) (orders : List HouseWords) (files : Files) (ledger : Ledger)
-    (left : Files) (kept : Ledger) → AllByRecursion P orders
-    → StopsAt stop orders files ledger left kept → R ledger kept
-stop_lasts R P lasts None orders files ledger left kept may same =
-    subst (R ledger) (sym same.1) (lasts.same ledger)
-stop_lasts R P lasts (Some act) orders files ledger left kept may stops =
-    let words : AllByRecursion P (act.order ∷ stops.others) =
-    subst (AllByRecursion P) stops.orders_are may in
-    subst (R ledger) (sym stops.kept_is)
-    (subst (λ found. R found act.kept) stops.ledger_is (act_lasts R P lasts act words.0 stops.is))
-
 split_all : {X : Type 0} (P : X → Type 0) (front back : List X) → AllByRecursion P (front ++ back)
     → AllByRecursion P front × AllByRecursion P back
 split_all P [] back all = (tt, all)
 split_all P (x ∷ front) back all = let more = split_all P front back all.1 in
     ((all.0, more.0), more.1)
 
-performs_last : (R : Ledger → Ledger → Type 0) (P : HouseWords → Type 0) → Lasts R P
-    → (orders : List HouseWords) (files : Files) (ledger : Ledger) (acts : List HouseAct)
-    (stop : Option HouseAct) (left : Files) (kept : Ledger) → AllByRecursion P orders
-    → Performs orders files ledger acts stop left kept → R ledger kept
-performs_last R P lasts orders files ledger acts stop left kept may performs =
-    let parts = split_all P (map (λ (act : HouseAct). act.order) acts) performs.later
-    (subst (AllByRecursion P) performs.orders_are may) in
-    lasts.further ledger performs.ledger_between kept
-    (acts_last R P lasts acts files ledger performs.files_between performs.ledger_between parts.0
-    performs.done)
-    (stop_lasts R P lasts stop performs.later performs.files_between performs.ledger_between left
-    kept parts.1 performs.last)
+module _ (R : Ledger → Ledger → Type 0) (P : HouseWords → Type 0) (lasts : Lasts R P) where
+  act_lasts : (act : HouseAct) → P act.order → IsAct act → R act.ledger act.kept
+  act_lasts act may is =
+      subst (R act.ledger) (sym (act_kept act is)) (lasts.one act.files act.ledger act.order may)
 
--- what lies before an act among them, and behind it
-acts_within : (R : Ledger → Ledger → Type 0) (P : HouseWords → Type 0) → Lasts R P
-    → (acts : List HouseAct) (files : Files) (ledger : Ledger) (left : Files) (kept : Ledger)
-    (act : HouseAct) → AllByRecursion P (map (λ (one : HouseAct). one.order) acts)
-    → AreActs acts files ledger left kept → Contains acts act → R ledger act.ledger
-    × R act.kept kept
-acts_within R P lasts [] files ledger left kept act may are (k, below, at) = absurd (omega arith)
-acts_within R P lasts (first ∷ acts) files ledger left kept act may are (zero, below, at) =
-    subst (λ (one : HouseAct). R ledger one.ledger × R one.kept kept) at (
-      subst (R ledger) (sym are.1) (lasts.same ledger),
-      acts_last R P lasts acts first.left first.kept left kept may.1 are.3,
-    )
-acts_within R P lasts (first ∷ acts) files ledger left kept act may are (suc k, below, at) =
-    let more = acts_within R P lasts acts first.left first.kept left kept act may.1 are.3
-    (k, omega arith, at) in (
-      lasts.further ledger first.kept act.ledger
-          (subst (λ found. R found first.kept) are.1 (act_lasts R P lasts first may.0 are.2))
-          more.0,
-      more.1,
-    )
+  acts_last : (acts : List HouseAct) (files : Files) (ledger : Ledger) (left : Files)
+      (kept : Ledger) → AllByRecursion P (map (λ (act : HouseAct). act.order) acts)
+      → AreActs acts files ledger left kept → R ledger kept
+  acts_last [] files ledger left kept may are =
+      subst (R ledger) (sym are.1) (lasts.same ledger)
+  acts_last (act ∷ acts) files ledger left kept may are =
+      lasts.further ledger act.kept kept
+      (subst (λ found. R found act.kept) are.1 (act_lasts act may.0 are.2))
+      (acts_last acts act.left act.kept left kept may.1 are.3)
+
+  stop_lasts : (stop : Option HouseAct) (orders : List HouseWords) (files : Files)
+      (ledger : Ledger) (left : Files) (kept : Ledger) → AllByRecursion P orders
+      → StopsAt stop orders files ledger left kept → R ledger kept
+  stop_lasts None orders files ledger left kept may same =
+      subst (R ledger) (sym same.1) (lasts.same ledger)
+  stop_lasts (Some act) orders files ledger left kept may stops =
+      let words : AllByRecursion P (act.order ∷ stops.others) =
+      subst (AllByRecursion P) stops.orders_are may in
+      subst (R ledger) (sym stops.kept_is)
+      (subst (λ found. R found act.kept) stops.ledger_is (act_lasts act words.0 stops.is))
+
+  performs_last : (orders : List HouseWords) (files : Files) (ledger : Ledger)
+      (acts : List HouseAct) (stop : Option HouseAct) (left : Files) (kept : Ledger)
+      → AllByRecursion P orders
+      → Performs orders files ledger acts stop left kept → R ledger kept
+  performs_last orders files ledger acts stop left kept may performs =
+      let parts = split_all P (map (λ (act : HouseAct). act.order) acts) performs.later
+      (subst (AllByRecursion P) performs.orders_are may) in
+      lasts.further ledger performs.ledger_between kept
+      (acts_last acts files ledger performs.files_between performs.ledger_between parts.0
+      performs.done)
+      (stop_lasts stop performs.later performs.files_between performs.ledger_between left kept
+      parts.1 performs.last)
+
+  -- what lies before an act among them, and behind it
+  acts_within : (acts : List HouseAct) (files : Files) (ledger : Ledger) (left : Files)
+      (kept : Ledger) (act : HouseAct)
+      → AllByRecursion P (map (λ (one : HouseAct). one.order) acts)
+      → AreActs acts files ledger left kept → Contains acts act → R ledger act.ledger
+      × R act.kept kept
+  acts_within [] files ledger left kept act may are (k, below, at) = absurd (omega arith)
+  acts_within (first ∷ acts) files ledger left kept act may are (zero, below, at) =
+      subst (λ (one : HouseAct). R ledger one.ledger × R one.kept kept) at (
+        subst (R ledger) (sym are.1) (lasts.same ledger),
+        acts_last acts first.left first.kept left kept may.1 are.3,
+      )
+  acts_within (first ∷ acts) files ledger left kept act may are (suc k, below, at) =
+      let more = acts_within acts first.left first.kept left kept act may.1 are.3
+      (k, omega arith, at) in (
+        lasts.further ledger first.kept act.ledger
+            (subst (λ found. R found first.kept) are.1 (act_lasts first may.0 are.2)) more.0,
+        more.1,
+      )
 
 pub is_act_within : (acts : List HouseAct) (files : Files) (ledger : Ledger) (left : Files)
     (kept : Ledger) (act : HouseAct) → AreActs acts files ledger left kept → Contains acts act
@@ -203,18 +187,15 @@ read_asks f (Err said) each = tt
 -- such words ask what a house may be asked
 asks_right : (files : Files) (order : HouseWords) → AreHouseWords order
     → IfSome (asked_in files order) IsHouseCommand
-asks_right files (Announce id width lanes) are = are
-asks_right files (AnnounceReserve id width lanes reserve) are = are
 asks_right files (Submit id seal secret) are =
     read_asks (λ (row : SealRow). house.Submit id row.seal row.secret) (row_in files seal secret)
     (λ row read. let texts = ((reads_row files seal secret).read row).0 read in
     (are, texts.seal, texts.secret))
-asks_right files (Prove id seed board) are = are
 asks_right files (Answer id challenge reply) are =
     read_asks (house.Answer id) (challenge_in files challenge)
     (λ given read. let text = ((reads_challenge files challenge).read given).0 read in
     (are, text.right))
-asks_right files (Show id) are = are
+asks_right files order are = are
 
 right_by : (asked : Option HouseCommand) (ledger : Ledger) → IfSome asked IsHouseCommand
     → IsLedger ledger → IsLedger (ledger_by asked ledger)
@@ -238,8 +219,7 @@ ledgers_last = record {
 pub acts_right : (acts : List HouseAct) (files : Files) (ledger : Ledger) (left : Files)
     (kept : Ledger) → AllByRecursion AreHouseWords (map (λ (act : HouseAct). act.order) acts)
     → AreActs acts files ledger left kept → IsLedger ledger → IsLedger kept
-acts_right acts files ledger left kept are done =
-    acts_last StaysLedger AreHouseWords ledgers_last acts files ledger left kept are done
+acts_right = acts_last StaysLedger AreHouseWords ledgers_last
 
 pub right_within : (acts : List HouseAct) (files : Files) (ledger : Ledger) (left : Files)
     (kept : Ledger) (act : HouseAct)
@@ -254,9 +234,7 @@ pub performs_right : (orders : List HouseWords) (files : Files) (ledger : Ledger
     (acts : List HouseAct) (stop : Option HouseAct) (left : Files) (kept : Ledger)
     → AllByRecursion AreHouseWords orders → Performs orders files ledger acts stop left kept
     → IsLedger ledger → IsLedger kept
-performs_right orders files ledger acts stop left kept are performs =
-    performs_last StaysLedger AreHouseWords ledgers_last orders files ledger acts stop left kept are
-    performs
+performs_right = performs_last StaysLedger AreHouseWords ledgers_last
 
 -- ---- what was answered stays
 

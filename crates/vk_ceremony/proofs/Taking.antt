@@ -98,46 +98,40 @@ line_taken_says script rest text behind taken =
 
 -- ---- what a line says
 
--- the line `end`
-pub end_says : (script : List ℕ) (rest : Rest) (text word : List ℕ) (behind : Rest)
-    → text_at rest ≡ Ok (text, behind) → word ≡ codes "end" → true ≡ bytes_eq text word
-    → script_at script rest ≡ closes (over_at behind)
-end_says script rest text word behind taken is same =
-    let test : bytes_eq text (codes "end") ≡ true = sym (same ∙ ap (bytes_eq text) is) in
-    line_taken_says script rest text behind taken ∙ rw test refl
-
 order_said : (script : List ℕ) (behind : Rest) (over : Option ℕ) (order : Option HouseWords)
     → line_then (option_map Order order) behind.taken (script_at script behind) over
     ≡ order_then script order behind
 order_said script behind over (Some order) = refl
 order_said script behind over None = refl
 
--- another line
-other_says : (script : List ℕ) (rest : Rest) (text word : List ℕ) (behind : Rest)
-    → text_at rest ≡ Ok (text, behind) → word ≡ codes "end" → false ≡ bytes_eq text word
-    → script_at script rest ≡ order_then script (order_line script text) behind
-other_says script rest text word behind taken is other =
-    let test : bytes_eq text (codes "end") ≡ false = sym (other ∙ ap (bytes_eq text) is) in
-    line_taken_says script rest text behind taken
-    ∙ rw test (order_said script behind (over_at behind) (order_line script text))
+module _ (script : List ℕ) (rest : Rest) (text word : List ℕ) (behind : Rest)
+    (taken : text_at rest ≡ Ok (text, behind)) (is : word ≡ codes "end") where
+  -- the line `end`
+  pub end_says : true ≡ bytes_eq text word → script_at script rest ≡ closes (over_at behind)
+  end_says same =
+      let test : bytes_eq text (codes "end") ≡ true = sym (same ∙ ap (bytes_eq text) is) in
+      line_taken_says script rest text behind taken ∙ rw test refl
 
--- it is UTF-8, or it isn't
-pub words_say : (script : List ℕ) (rest : Rest) (text word : List ℕ) (behind : Rest)
-    (words : List (List ℕ)) → text_at rest ≡ Ok (text, behind) → word ≡ codes "end"
-    → false ≡ bytes_eq text word → Some words ≡ line_words text
-    → script_at script rest ≡ order_then script (script_words script words) behind
-words_say script rest text word behind words taken is other are =
-    other_says script rest text word behind taken is other
-    ∙ ap (λ o. order_then script (o >>? script_words script) behind) (sym are)
+  -- another line
+  other_says : false ≡ bytes_eq text word
+      → script_at script rest ≡ order_then script (order_line script text) behind
+  other_says other =
+      let test : bytes_eq text (codes "end") ≡ false = sym (other ∙ ap (bytes_eq text) is) in
+      line_taken_says script rest text behind taken
+      ∙ rw test (order_said script behind (over_at behind) (order_line script text))
 
-pub no_words_say : (script : List ℕ) (rest : Rest) (text word : List ℕ) (behind : Rest) (number : ℕ)
-    → text_at rest ≡ Ok (text, behind) → word ≡ codes "end" → false ≡ bytes_eq text word
-    → None ≡ line_words text → number ≡ behind.taken
-    → script_at script rest ≡ closes (Some number)
-no_words_say script rest text word behind number taken is other none count =
-    other_says script rest text word behind taken is other
-    ∙ ap (λ o. order_then script (o >>? script_words script) behind) (sym none)
-    ∙ ap (λ n. closes (Some n)) (sym count)
+  -- it is UTF-8, or it isn't
+  pub words_say : (words : List (List ℕ)) → false ≡ bytes_eq text word
+      → Some words ≡ line_words text
+      → script_at script rest ≡ order_then script (script_words script words) behind
+  words_say words other are =
+      other_says other ∙ ap (λ o. order_then script (o >>? script_words script) behind) (sym are)
+
+  pub no_words_say : (number : ℕ) → false ≡ bytes_eq text word → None ≡ line_words text
+      → number ≡ behind.taken → script_at script rest ≡ closes (Some number)
+  no_words_say number other none count =
+      other_says other ∙ ap (λ o. order_then script (o >>? script_words script) behind) (sym none)
+      ∙ ap (λ n. closes (Some n)) (sym count)
 
 -- ---- what a reader took
 
@@ -158,7 +152,7 @@ number_after : (rest behind : Rest) (text : List ℕ) → text_at rest ≡ Ok (t
 unfolding text_at
 number_after rest behind text taken = taken_more rest behind (step_of rest.left) text taken
 
-number_of : (files : Files) (lines : LinesValue) → (rest_of lines files).taken ≡ lines.taken
+pub number_of : (files : Files) (lines : LinesValue) → (rest_of lines files).taken ≡ lines.taken
 unfolding rest_of rest_in
 number_of files lines = refl
 

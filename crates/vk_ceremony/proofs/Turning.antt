@@ -19,6 +19,7 @@ use Rattle.vk_ceremony.specs.declared.holding.Turn.TheVariants.{Next, Ended}
 use Rattle.vk_ceremony.specs.Scripts.{Script, closes, over_at, script_at}
 use Rattle.vk_ceremony.specs.Ceremonies.{Ceremony, EndsAll, EndsSaying, EndsSome, after_command, ceremony_by, closed, closing_said, ended_by, goes_on, is_refusal, with_command}
 use Rattle.vk_ceremony.specs.Turns.{Stands, Turns, TurnsSome, left_of, order_then, stores_of, turn_by}
+use Rattle.vk_ceremony.proofs.Taking.{number_of}
 use Rattle.vk_ceremony.proofs.Writing.{command_leaves}
 
 -- ---- nothing was done
@@ -61,10 +62,6 @@ pub line_told : (script : List ℕ) (held : Option Files) (before lines : LinesV
 line_told script None before lines line other same told = tt
 line_told script (Some files) before lines line other same told =
     subst (λ l. Stands script l (rest_of before files) (rest_of lines files)) same (told script)
-
-number_of : (files : Files) (lines : LinesValue) → (rest_of lines files).taken ≡ lines.taken
-unfolding rest_of rest_in
-number_of files lines = refl
 
 -- what is found of the words of a line is found of them as a slice
 pub words_found : {S : Type 0} (script : List ℕ) (bytes : S → List ℕ) (slice words : List S)
@@ -123,15 +120,6 @@ abbrev pub turned : Bool → Result ℕ OutsideErr → Result Turn OutsideErr
 turned refused (Ok status) = Ok (turn_by refused status)
 turned refused (Err stop) = Err stop
 
--- the command was stopped, whatever would have come after it
-command_stopped : (script : List ℕ) (lines : LinesValue) (effect : Effect) (later : Option Ceremony)
-    (test : Bool) (stop : OutsideErr) (old new : Outside) → Stopped effect old new
-    → IfSome (if test then option_map (with_command effect) later else Some (ended_by effect))
-    (λ whole. Turns script lines (Err stop) whole old new)
-command_stopped script lines effect None true stop old new stopped = tt
-command_stopped script lines effect (Some later) true stop old new stopped = inl stopped
-command_stopped script lines effect later false stop old new stopped = inl stopped
-
 puts_none : (taken : Option (List ℕ)) → puts [] taken ≡ taken
 puts_none None = refl
 puts_none (Some before) = ap Some (append-nil before)
@@ -156,96 +144,83 @@ unfolding rest_of
 rest_stays script lines files other named same =
     ap (rest_in lines) (subst (λ name. bytes_of other name ≡ bytes_of files name) (sym named) same)
 
--- what is left of the ceremony after a command that was done
-left_after : (script : List ℕ) (words : List (List ℕ)) (order : HouseWords) (refused : Bool)
-    (lines : LinesValue) (files : Files) (ledger : Option Ledger) (effect : Effect) (status : ℕ)
-    (taken : Option (List ℕ)) (new : Outside)
-    → lines.name ≡ script → script_words script words ≡ Some order
-    → house_effect (Some files) ledger order ≡ Some effect
-    → Done status effect (outside (stores (Some files) ledger) taken) new
-    → left_of script (refused || is_refusal status) lines (stores_of new)
-    ≡ ceremony_by script (refused || is_refusal effect.status)
-    (script_at script (rest_of lines files)) (after effect (stores (Some files) ledger))
-left_after script words order refused lines files ledger effect status taken new named is told
-    done_so =
-    ap (λ n. left_of script (refused || is_refusal n) lines (stores_of new)) done_so.status_is
-    ∙ ap (λ (left : Outside). left_of script (refused || is_refusal effect.status) lines
-    (stores_of left)) (done_is status effect (outside (stores (Some files) ledger) taken) new
-    done_so)
-    ∙ ap (λ rest. ceremony_by script (refused || is_refusal effect.status) (script_at script rest)
-    (after effect (stores (Some files) ledger)))
-    (rest_stays script lines files (written effect.writes files) named
-    (command_leaves script words order (Some files) ledger effect files is told))
+module _ (script : List ℕ) (lines : LinesValue) (effect : Effect) (old new : Outside) where
+  -- the command was stopped, whatever would have come after it
+  command_stopped : (later : Option Ceremony) (test : Bool) (stop : OutsideErr)
+      → Stopped effect old new
+      → IfSome (if test then option_map (with_command effect) later else Some (ended_by effect))
+      (λ whole. Turns script lines (Err stop) whole old new)
+  command_stopped None true stop stopped = tt
+  command_stopped (Some later) true stop stopped = inl stopped
+  command_stopped later false stop stopped = inl stopped
 
--- it was done, and the ceremony goes on
-command_done : (script : List ℕ) (lines : LinesValue) (effect : Effect) (refused : Bool)
-    (later : Option Ceremony) (status : ℕ) (old new : Outside) → Done status effect old new
-    → left_of script (refused || is_refusal status) lines (stores_of new) ≡ later
-    → IfSome (option_map (with_command effect) later)
-    (λ whole. Turns script lines (Ok (Next (refused || is_refusal status))) whole old new)
-command_done script lines effect refused None status old new is left = tt
-command_done script lines effect refused (Some later) status old new is left =
-    subst (λ o. IsSomeAnd o (λ rest. (e : Effect)
-    × (with_command effect later ≡ with_command e rest) × (new ≡ done e old))) (sym left)
-    (effect, refl, done_is status effect old new is)
+  -- it was done, and the ceremony goes on
+  command_done : (refused : Bool) (later : Option Ceremony) (status : ℕ)
+      → Done status effect old new
+      → left_of script (refused || is_refusal status) lines (stores_of new) ≡ later
+      → IfSome (option_map (with_command effect) later)
+      (λ whole. Turns script lines (Ok (Next (refused || is_refusal status))) whole old new)
+  command_done refused None status is left = tt
+  command_done refused (Some later) status is left =
+      subst (λ o. IsSomeAnd o (λ rest. (e : Effect)
+      × (with_command effect later ≡ with_command e rest) × (new ≡ done e old))) (sym left)
+      (effect, refl, done_is status effect old new is)
 
-turn_of : (script : List ℕ) (lines : LinesValue) (effect : Effect) (refused : Bool)
-    (later : Option Ceremony) (test : Bool) (status : ℕ) (old new : Outside)
-    → Done status effect old new
-    → left_of script (refused || is_refusal status) lines (stores_of new) ≡ later
-    → IfSome (if test then option_map (with_command effect) later else Some (ended_by effect))
-    (λ whole. Turns script lines
-    (Ok (if test then Next (refused || is_refusal status) else Ended status)) whole old new)
-turn_of script lines effect refused later true status old new is left =
-    command_done script lines effect refused later status old new is left
-turn_of script lines effect refused later false status old new is left =
-    command_ended effect status old new is
+  turn_of : (refused : Bool) (later : Option Ceremony) (test : Bool) (status : ℕ)
+      → Done status effect old new
+      → left_of script (refused || is_refusal status) lines (stores_of new) ≡ later
+      → IfSome (if test then option_map (with_command effect) later else Some (ended_by effect))
+      (λ whole. Turns script lines
+      (Ok (if test then Next (refused || is_refusal status) else Ended status)) whole old new)
+  turn_of refused later true status is left = command_done refused later status is left
+  turn_of refused later false status is left = command_ended effect status old new is
 
--- by the effect of the command
-effect_turned : (script : List ℕ) (words : List (List ℕ)) (order : HouseWords) (refused : Bool)
-    (lines : LinesValue) (files : Files) (ledger : Option Ledger) (effect : Effect)
-    (answer : Result ℕ OutsideErr) (taken : Option (List ℕ)) (new : Outside)
-    → lines.name ≡ script → script_words script words ≡ Some order
-    → house_effect (Some files) ledger order ≡ Some effect
-    → Ends answer effect (outside (stores (Some files) ledger) taken) new
-    → IfSome (after_command effect
-    (ceremony_by script (refused || is_refusal effect.status)
-    (script_at script (rest_of lines files)) (after effect (stores (Some files) ledger))))
-    (λ whole. Turns script lines (turned refused answer) whole
-    (outside (stores (Some files) ledger) taken) new)
-effect_turned script words order refused lines files ledger effect (Err stop) taken new named is
-    told ends =
-    command_stopped script lines effect _ (goes_on effect.status) stop
-    (outside (stores (Some files) ledger) taken) new ends
-effect_turned script words order refused lines files ledger effect (Ok status) taken new named is
-    told ends =
-    let old : Outside = outside (stores (Some files) ledger) taken in
-    let later : Option Ceremony =
-    ceremony_by script (refused || is_refusal effect.status)
-    (script_at script (rest_of lines files)) (after effect (stores (Some files) ledger)) in
-    subst (λ n. IfSome (if goes_on n then option_map (with_command effect) later
-    else Some (ended_by effect))
-    (λ whole. Turns script lines (Ok (turn_by refused status)) whole old new)) ends.status_is
-    (turn_of script lines effect refused later (goes_on status) status old new ends
-    (left_after script words order refused lines files ledger effect status taken new named is
-    told ends))
+-- a line was taken whose words are this command
+module _ (script : List ℕ) (words : List (List ℕ)) (order : HouseWords) (refused : Bool)
+    (lines : LinesValue) (files : Files) (ledger : Option Ledger) (taken : Option (List ℕ))
+    (new : Outside) (named : lines.name ≡ script) (is : script_words script words ≡ Some order) where
+  abbrev old : Outside
+  old = outside (stores (Some files) ledger) taken
 
-order_turned : (script : List ℕ) (words : List (List ℕ)) (order : HouseWords) (refused : Bool)
-    (lines : LinesValue) (files : Files) (ledger : Option Ledger) (effect : Option Effect)
-    (answer : Result ℕ OutsideErr) (taken : Option (List ℕ)) (new : Outside)
-    → lines.name ≡ script → script_words script words ≡ Some order
-    → house_effect (Some files) ledger order ≡ effect
-    → IfSome effect (λ e. Ends answer e (outside (stores (Some files) ledger) taken) new)
-    → IfSome (option_and_then (λ e.
-    after_command e (ceremony_by script (refused || is_refusal e.status)
-    (script_at script (rest_of lines files)) (after e (stores (Some files) ledger)))) effect)
-    (λ whole. Turns script lines (turned refused answer) whole
-    (outside (stores (Some files) ledger) taken) new)
-order_turned script words order refused lines files ledger None answer taken new named is told
-    ends = tt
-order_turned script words order refused lines files ledger (Some effect) answer taken new named is
-    told ends = effect_turned script words order refused lines files ledger effect answer taken new
-    named is told ends
+  -- what is left of the ceremony after it
+  abbrev left_by : Effect → Option Ceremony
+  left_by effect =
+      ceremony_by script (refused || is_refusal effect.status)
+      (script_at script (rest_of lines files)) (after effect (stores (Some files) ledger))
+
+  left_after : (effect : Effect) (status : ℕ)
+      → house_effect (Some files) ledger order ≡ Some effect → Done status effect old new
+      → left_of script (refused || is_refusal status) lines (stores_of new) ≡ left_by effect
+  left_after effect status told done_so =
+      ap (λ n. left_of script (refused || is_refusal n) lines (stores_of new)) done_so.status_is
+      ∙ ap (λ (left : Outside). left_of script (refused || is_refusal effect.status) lines
+      (stores_of left)) (done_is status effect old new done_so)
+      ∙ ap (λ rest. ceremony_by script (refused || is_refusal effect.status)
+      (script_at script rest) (after effect (stores (Some files) ledger)))
+      (rest_stays script lines files (written effect.writes files) named
+      (command_leaves script words order (Some files) ledger effect files is told))
+
+  -- by the effect of the command
+  effect_turned : (effect : Effect) (answer : Result ℕ OutsideErr)
+      → house_effect (Some files) ledger order ≡ Some effect → Ends answer effect old new
+      → IfSome (after_command effect (left_by effect))
+      (λ whole. Turns script lines (turned refused answer) whole old new)
+  effect_turned effect (Err stop) told ends =
+      command_stopped script lines effect old new _ (goes_on effect.status) stop ends
+  effect_turned effect (Ok status) told ends =
+      subst (λ n. IfSome (if goes_on n then option_map (with_command effect) (left_by effect)
+      else Some (ended_by effect))
+      (λ whole. Turns script lines (Ok (turn_by refused status)) whole old new)) ends.status_is
+      (turn_of script lines effect old new refused (left_by effect) (goes_on status) status ends
+      (left_after effect status told ends))
+
+  order_turned : (effect : Option Effect) (answer : Result ℕ OutsideErr)
+      → house_effect (Some files) ledger order ≡ effect
+      → IfSome effect (λ e. Ends answer e old new)
+      → IfSome (option_and_then (λ e. after_command e (left_by e)) effect)
+      (λ whole. Turns script lines (turned refused answer) whole old new)
+  order_turned None answer told ends = tt
+  order_turned (Some effect) answer told ends = effect_turned effect answer told ends
 
 -- a line was taken, and its command was done or stopped
 pub left_turned : (script : List ℕ) (words : List (List ℕ)) (order : HouseWords) (refused : Bool)
@@ -271,5 +246,5 @@ left_turned script words order refused before lines (Some files) now ledger answ
     subst (λ left. IfSome (house_effect left ledger order)
     (λ effect. Ends answer effect (outside (stores left ledger) taken) new)) same ends in
     subst P (sym (read ∙ ap (λ o. order_then script o (rest_of lines files)) (sym is)))
-    (order_turned script words order refused lines files ledger
-    (house_effect (Some files) ledger order) answer taken new named (sym is) refl here)
+    (order_turned script words order refused lines files ledger taken new named (sym is)
+    (house_effect (Some files) ledger order) answer refl here)

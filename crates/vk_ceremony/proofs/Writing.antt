@@ -14,7 +14,7 @@ use Rattle.vk_lines.specs.Tokens.{meets}
 use Rattle.vk_reply.specs.declared.challenge.Challenge.{Challenge}
 use Rattle.vk_keeper.specs.Ledgers.{Ledger}
 use Rattle.vk_house.specs.Commands as house
-use Rattle.vk_house.specs.Replies.{HouseReply, Done, Position, Work, Stands, Refused}
+use Rattle.vk_house.specs.Replies.{HouseReply, Work}
 use Rattle.vk_house.specs.Steps.{house_step}
 use Rattle.vk_words.specs.Commands.{house_words}
 use Rattle.vk_words.specs.Orders.{HouseWords, Announce, AnnounceReserve, Submit, Prove, Answer, Show}
@@ -33,18 +33,12 @@ OnlyWrites name (file ∷ files) = (name ≡ Some file.0) × OnlyWrites name fil
 board_writes : (board : List ℕ) (reply : HouseReply)
     → OnlyWrites (Some board) (board_file board reply)
 board_writes board (Work auction sale) = (refl, tt)
-board_writes board Done = tt
-board_writes board (Position position) = tt
-board_writes board (Stands standing) = tt
-board_writes board (Refused refusal) = tt
+board_writes board reply = tt
 
 reply_writes : (name : List ℕ) (challenge : Challenge) (reply : HouseReply)
     → OnlyWrites (Some name) (reply_file name challenge reply)
 reply_writes name challenge (Work auction sale) = (refl, tt)
-reply_writes name challenge Done = tt
-reply_writes name challenge (Position position) = tt
-reply_writes name challenge (Stands standing) = tt
-reply_writes name challenge (Refused refusal) = tt
+reply_writes name challenge reply = tt
 
 read_writes : {X : Type 0} (name : Option (List ℕ)) (ledger : Ledger) (effect : X → Effect)
     (read : Result X SaidValue) → ((x : X) → OnlyWrites name (effect x).writes)
@@ -111,7 +105,7 @@ writes_leave files name only (file ∷ writes) all other =
 
 -- ---- a command of a script
 
-not_true : (test : Bool) → not test ≡ true → test ≡ false
+pub not_true : (test : Bool) → not test ≡ true → test ≡ false
 not_true true is = cc
 not_true false is = refl
 

@@ -70,7 +70,7 @@ prove_left id seed auction some same =
     passed (no_seals auction.seals) _ some ∙ passed (other_seed seed auction.phase) _ same
     ∙ only (dry_seed (dry_in auction seed))
 
-same_seed : (kept seed : List ℕ) → then_some (not (bytes_eq kept seed)) (OtherSeed kept) ≡ None
+pub same_seed : (kept seed : List ℕ) → then_some (not (bytes_eq kept seed)) (OtherSeed kept) ≡ None
     → kept ≡ seed
 same_seed kept seed none = (bytes_eq-Decides kept seed).0
     (test_passed (bytes_eq kept seed) (OtherSeed kept) none)

@@ -11,7 +11,7 @@ use Rattle.vk_keeper.specs.Auctions.{challenge_of}
 use Rattle.vk_keeper.specs.Joining.{first_of}
 use Rattle.vk_keeper.specs.Ledgers.{Ledger}
 use Rattle.vk_house.specs.declared.errors.HouseErr.{HouseErr}
-use Rattle.vk_house.specs.Commands.{HouseCommand, Announce, AnnounceReserve, Submit, Prove, Answer, Show, id_of}
+use Rattle.vk_house.specs.Commands.{HouseCommand, Answer, id_of}
 use Rattle.vk_house.specs.Replies.{HouseReply, Work}
 use Rattle.vk_house.specs.Tests.{other_than}
 use Rattle.vk_house.specs.Refusals.{refusals_of, refusal_of}
@@ -20,7 +20,7 @@ use Rattle.vk_house.specs.Runs.{Event, HouseRun}
 use Rattle.vk_house.specs.Once.{KeepsSeed, KeepsAnswer, KeepsAnswers, IsAnswered}
 use Rattle.vk_house.proofs.Passing.{none_holds, nothing_there}
 use Rattle.vk_house.proofs.Deciding.{challenge_with, kept_same}
-use Rattle.vk_house.proofs.Stepping.{value_after, step_here, step_reply, call_each}
+use Rattle.vk_house.proofs.Stepping.{OfChanges, value_after, step_here, step_reply, call_each, value_each}
 
 -- what KeepsAnswers says at an id
 abbrev Stays : Option Auction → Option Auction → Type 0
@@ -38,38 +38,15 @@ stays : (found : Option Auction) → Stays found found
 stays None = tt
 stays (Some auction) = stays_by auction auction.phase
 
--- a command that isn't refused
-kept_stays : (command : HouseCommand) (held : Auction) (phase : Phase)
-    → let auction = in_phase held phase in refusal_of command (Some auction) ≡ None
-    → KeepsAnswer auction phase (option_or (kept_by command (Some auction)) (Some auction))
-unfolding first_of
-kept_stays (Announce asked w l) held phase passes = cc
-kept_stays (AnnounceReserve asked w l reserve) held phase passes = cc
-kept_stays (Submit asked seal secret) held Taking passes = tt
-kept_stays (Submit asked seal secret) held (Proved seed) passes = cc
-kept_stays (Submit asked seal secret) held (Answered seed challenge) passes = cc
-kept_stays (Prove asked given) held Taking passes = tt
-kept_stays (Prove asked given) held (Proved seed) passes = record { same = refl; seed = refl }
-kept_stays (Prove asked given) held (Answered seed challenge) passes = refl
-kept_stays (Answer asked given) held Taking passes = tt
-kept_stays (Answer asked given) held (Proved seed) passes = record { same = refl; seed = refl }
-kept_stays (Answer asked given) held (Answered seed challenge) passes = refl
-kept_stays (Show asked) held phase passes = stays_by held phase
-
-step_stays : (command : HouseCommand) (auction : Auction) (refusal : Option HouseErr)
-    → refusal_of command (Some auction) ≡ refusal
-    → KeepsAnswer auction auction.phase
-    (option_or (step_by refusal command (Some auction) (kept_by command (Some auction))).kept
-    (Some auction))
-step_stays command auction (Some refusal) is = stays (Some auction)
-step_stays command auction None is = kept_stays command auction auction.phase is
-
-value_stays : (command : HouseCommand) (found : Option Auction)
-    → Stays found (value_after command found)
-unfolding value_after step_at
-value_stays command None = tt
-value_stays command (Some auction) =
-    step_stays command auction (refusal_of command (Some auction)) refl
+of_stays : OfChanges (λ command. Stays)
+of_stays = record {
+  same = λ command. stays;
+  opens = λ id width lanes. tt;
+  reserves = λ id width lanes reserve. tt;
+  joins = λ id seal secret held may_join. tt;
+  proves = λ id seed held some none_dry. tt;
+  answers = λ id seed challenge held each. record { same = refl; seed = refl };
+}
 
 -- ---- ledgers
 
@@ -77,7 +54,7 @@ pub call_keeps : (old new : Ledger) (command : HouseCommand) (reply : HouseReply
     → HouseCall old command reply new → KeepsAnswers old new
 call_keeps old new command reply =
     call_each (λ id. Stays) old new command reply (λ id. stays)
-    (value_stays command (get old (id_of command)))
+    (value_each (λ command. Stays) of_stays command (get old (id_of command)))
 
 pub keeps_same : (ledger : Ledger) → KeepsAnswers ledger ledger
 keeps_same ledger id = stays (get ledger id)

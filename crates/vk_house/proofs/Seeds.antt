@@ -12,63 +12,31 @@ use Rattle.vk_job.specs.Proofs.{Dry}
 use Rattle.vk_job.specs.Jobs.{dry_in}
 use Rattle.vk_house.specs.declared.errors.HouseErr.{HouseErr}
 use Rattle.vk_house.specs.declared.errors.HouseErr.TheVariants.{DrySeed, Length, OtherChallenge}
-use Rattle.vk_house.specs.Commands.{HouseCommand, Announce, AnnounceReserve, Submit, Prove, Answer, Show, id_of}
+use Rattle.vk_house.specs.Commands.{HouseCommand, Answer, id_of}
 use Rattle.vk_house.specs.Replies.{HouseReply, Refused, reply_to}
 use Rattle.vk_house.specs.Tests.{dry_seed, other_length, other_than, other_challenge}
-use Rattle.vk_house.specs.Refusals.{refusals_of, refusal_of}
+use Rattle.vk_house.specs.Refusals.{refusal_of}
 use Rattle.vk_house.specs.Steps.{step_by, step_at, kept_by, in_phase, HouseCall}
 use Rattle.vk_house.specs.Once.{SeedGivesTapes, SeedsGiveTapes}
 use Rattle.vk_house.proofs.Deciding.{dry_in_phase}
-use Rattle.vk_house.proofs.Passing.{none_holds, nothing_there, not_first, refusal_is}
-use Rattle.vk_house.proofs.Stepping.{value_after, step_reply, call_each}
+use Rattle.vk_house.proofs.Passing.{not_first, refusal_is}
+use Rattle.vk_house.proofs.Stepping.{OfChanges, step_reply, call_each, value_each}
 
 -- the tapes are there later where they were before
 abbrev Stays : Option Auction → Option Auction → Type 0
 Stays old new = IfSome old SeedGivesTapes → IfSome new SeedGivesTapes
 
-kept_tapes : (command : HouseCommand) (held : Auction) (phase : Phase)
-    → let auction = in_phase held phase in refusal_of command (Some auction) ≡ None
-    → SeedGivesTapes auction → IfSome (option_or (kept_by command (Some auction)) (Some auction))
-    SeedGivesTapes
-unfolding first_of
-kept_tapes (Announce asked w l) held phase passes has = tt
-kept_tapes (AnnounceReserve asked w l reserve) held phase passes has = tt
-kept_tapes (Submit asked seal secret) held Taking passes has = tt
-kept_tapes (Submit asked seal secret) held (Proved seed) passes has = cc
-kept_tapes (Submit asked seal secret) held (Answered seed challenge) passes has = cc
-kept_tapes (Prove asked seed) held Taking passes has =
-    let auction = in_phase held Taking in
-    let tests = none_holds (refusals_of (Prove asked seed) (Some auction)) passes in
-    dry_in_phase auction (Proved seed) seed ∙ nothing_there _ (dry_in auction seed) tests.1.1.1.0
-kept_tapes (Prove asked given) held (Proved seed) passes has = has
-kept_tapes (Prove asked given) held (Answered seed challenge) passes has = has
-kept_tapes (Answer asked given) held Taking passes has = has
-kept_tapes (Answer asked given) held (Proved seed) passes has =
-    dry_in_phase (in_phase held (Proved seed)) (Answered seed given) seed ∙ has
-kept_tapes (Answer asked given) held (Answered seed challenge) passes has = has
-kept_tapes (Show asked) held phase passes has = has
-
-opened_tapes : (command : HouseCommand) → refusal_of command None ≡ None
-    → IfSome (option_or (kept_by command None) None) SeedGivesTapes
-unfolding first_of
-opened_tapes (Announce asked w l) passes = tt
-opened_tapes (AnnounceReserve asked w l reserve) passes = tt
-opened_tapes (Submit asked seal secret) passes = tt
-opened_tapes (Prove asked seed) passes = tt
-opened_tapes (Answer asked challenge) passes = tt
-opened_tapes (Show asked) passes = tt
-
-step_tapes : (command : HouseCommand) (found : Option Auction) (refusal : Option HouseErr)
-    → refusal_of command found ≡ refusal
-    → Stays found (option_or (step_by refusal command found (kept_by command found)).kept found)
-step_tapes command found (Some refusal) is has = has
-step_tapes command None None is has = opened_tapes command is
-step_tapes command (Some auction) None is has = kept_tapes command auction auction.phase is has
-
-value_tapes : (command : HouseCommand) (found : Option Auction)
-    → Stays found (value_after command found)
-unfolding value_after step_at
-value_tapes command found = step_tapes command found (refusal_of command found) refl
+of_tapes : OfChanges (λ command. Stays)
+of_tapes = record {
+  same = λ command found has. has;
+  opens = λ id width lanes has. tt;
+  reserves = λ id width lanes reserve has. tt;
+  joins = λ id seal secret held may_join has. tt;
+  proves = λ id seed held some none_dry has.
+      dry_in_phase (in_phase held Taking) (Proved seed) seed ∙ none_dry;
+  answers = λ id seed challenge held each has.
+      dry_in_phase (in_phase held (Proved seed)) (Answered seed challenge) seed ∙ has;
+}
 
 pub no_tapes : SeedsGiveTapes empty
 no_tapes id = subst (λ found. IfSome found SeedGivesTapes) (sym (get-empty _ id)) tt
@@ -77,7 +45,7 @@ pub call_tapes : (old new : Ledger) (command : HouseCommand) (reply : HouseReply
     → HouseCall old command reply new → SeedsGiveTapes old → SeedsGiveTapes new
 call_tapes old new command reply call has id =
     call_each (λ id. Stays) old new command reply (λ id found it. it)
-    (value_tapes command (get old (id_of command))) call id (has id)
+    (value_each (λ command. Stays) of_tapes command (get old (id_of command))) call id (has id)
 
 -- ---- a challenge
 

@@ -4,7 +4,7 @@ use Rattle.std.specs.Prelude.{◌&&◌}
 use Rattle.std.specs.List.{AllByRecursion, IsDistinct}
 use Rattle.std.proofs.lemmas.Bool.{cases_Bool, and_parts, and_from, false≢true}
 use Rattle.sqlite_value.specs.declared.value.Value.{Value}
-use Rattle.sqlite_value.specs.declared.value.Value.TheVariants.{Null, Int, Real, Text, Blob}
+use Rattle.sqlite_value.specs.declared.value.Value.TheVariants.{Null, Int, Blob}
 use Rattle.sqlite_value.specs.declared.keys.Key.{Key}
 use Rattle.sqlite_value.specs.declared.keys.Collation.TheVariants.{Binary}
 use Rattle.sqlite_value.specs.Keys.{plain, ascending}
@@ -41,19 +41,13 @@ unfolding binary
 differs v w p q below = rw (p, q, below) refl
 
 int_no_null : (v : Value) → is_int v ≡ true → is_null v ≡ false
-int_no_null Null h = absurd (let e = h in cc)
 int_no_null (Int n) h = refl
-int_no_null (Real x) h = absurd (let e = h in cc)
-int_no_null (Text t) h = absurd (let e = h in cc)
-int_no_null (Blob b) h = absurd (let e = h in cc)
+int_no_null v h = absurd (let e = h in cc)
 
 -- an id is no NULL
 id_no_null : (v : Value) (id : List ℕ) → is_eq (value_cmp v (Blob id)) ≡ true → is_null v ≡ false
 id_no_null Null id h = absurd (let e = class_tied Null (Blob id) (equal_is _ h) in cc)
-id_no_null (Int n) id h = refl
-id_no_null (Real x) id h = refl
-id_no_null (Text t) id h = refl
-id_no_null (Blob b) id h = refl
+id_no_null v id h = refl
 
 -- two seals as they are shown have the same position
 abbrev pub same_position : Row → Row → Bool

@@ -1,15 +1,14 @@
 -- What each statement of `put` makes of the tables.
-use Rattle.std.proofs.Common.{◌≡◌, ◌≢◌, ℕ, ◌+◌, pos, Bool, true, false, cond, not, List, [], ◌∷◌, ◌++◌, map, filter, refl, ap, sym, subst, ◌∙◌, inl, inr, Ordering, Less, Equal, Greater}
+use Rattle.std.proofs.Common.{◌≡◌, ◌≢◌, ℕ, ◌+◌, pos, Bool, true, false, not, List, [], ◌∷◌, ◌++◌, map, filter, refl, ap, sym, subst, ◌∙◌, inl, inr}
 use Rattle.std.specs.Prelude.{None, Some, Option, ◌&&◌, ◌||◌, IsPermutation}
-use Rattle.std.specs.Ordering.{match_ordering}
 use Rattle.std.specs.List.{list_all}
 use Rattle.std.proofs.lemmas.Bool.{cases_Bool, and_parts}
-use Rattle.std.proofs.lemmas.List.Sorted.{IsPermutation-cons, IsPermutation-trans, IsPermutation-map, IsPermutation-sym, IsPermutation-middle, IsPermutation-append_right}
+use Rattle.std.proofs.lemmas.List.Sorted.{IsPermutation-trans, IsPermutation-map, IsPermutation-sym, IsPermutation-middle, IsPermutation-append_right}
 use Rattle.sqlite_value.specs.declared.value.Value.TheVariants.{Int, Text, Blob}
 use Rattle.sqlite_value.specs.declared.keys.Key.{Key}
-use Rattle.sqlite_value.specs.Order.{Row, column, value_cmp}
+use Rattle.sqlite_value.specs.Order.{Row, column}
 use Rattle.sqlite_value.proofs.KeyLemmas.{first_key-plain}
-use Rattle.sqlite_trees.specs.Tree.{rowid, put_row}
+use Rattle.sqlite_trees.specs.Tree.{put_row}
 use Rattle.sqlite_trees.proofs.ListLemmas.{filter_none, IsPermutation-same}
 use Rattle.sqlite_schema.specs.declared.command.Command.{Command}
 use Rattle.sqlite_schema.specs.Rules.{equal}
@@ -24,7 +23,7 @@ use Rattle.sqlite.specs.Held.{Held, state}
 use Rattle.sqlite.specs.Effect.{Database}
 use Rattle.sqlite.specs.State.{Runs}
 use Rattle.sqlite.specs.Listing.{understood}
-use Rattle.sqlite.proofs.Callers.{statement_of, runs_as}
+use Rattle.sqlite.proofs.Callers.{statement_of, one_permutation, runs_as}
 use Rattle.vk_keeper.specs.declared.auction.Auction.{Auction}
 use Rattle.vk_rows.specs.declared.texts.SealTexts.{SealTexts}
 use Rattle.vk_rows.specs.Columns.{auction_row, terms_row, seal_row, bits_in}
@@ -38,25 +37,7 @@ use Rattle.vk_store_laws.proofs.Texts.{IsCommand, of_id, is_behind, auction_term
 use Rattle.vk_store_laws.proofs.Selects.{is_id}
 use Rattle.vk_store_laws.proofs.Finds.{and_true}
 use Rattle.vk_store_laws.proofs.Tables.{cast_null, cast_int, deletes, inserts, replaces}
-use Rattle.vk_store_laws.proofs.Under.{own_id, others_after_put, others_after_delete, table_after_put, table_after_delete}
-
-pub apart_13 : ◌≡◌ {A = ℕ} 1 3 → ⊥
-apart_13 e = absurd (let f = e in cc)
-
-apart_31 : ◌≡◌ {A = ℕ} 3 1 → ⊥
-apart_31 e = absurd (let f = e in cc)
-
-apart_61 : ◌≡◌ {A = ℕ} 6 1 → ⊥
-apart_61 e = absurd (let f = e in cc)
-
-apart_63 : ◌≡◌ {A = ℕ} 6 3 → ⊥
-apart_63 e = absurd (let f = e in cc)
-
-pub apart_16 : ◌≡◌ {A = ℕ} 1 6 → ⊥
-apart_16 e = absurd (let f = e in cc)
-
-pub apart_36 : ◌≡◌ {A = ℕ} 3 6 → ⊥
-apart_36 e = absurd (let f = e in cc)
+use Rattle.vk_store_laws.proofs.Under.{own_id, put_beside, unlike, others_after_put, others_after_delete, table_after_put, table_after_delete}
 
 pub or_false : (b : Bool) → b || false ≡ b
 or_false true = refl
@@ -69,36 +50,10 @@ text_stays (Some text) = refl
 -- a row that the test passes, where it passes no other
 pub put_alone : (p : Row → Bool) (new : Row) (rows : List Row) → p new ≡ true → filter p rows ≡ []
     → is_taken rows new ≡ false → filter p (put_row new rows) ≡ new ∷ []
-put_alone p new rows passes none free = alone_from rows none free
-  where
-    tail : (b : Bool) (r : Row) (more : List Row) → cond b (r ∷ more) more ≡ []
-        → (b ≡ false) × (more ≡ [])
-    tail true r more is = absurd (let e = is in cc)
-    tail false r more is = (refl, is)
-
-    alone_from : (rs : List Row) → filter p rs ≡ [] → is_taken rs new ≡ false
-        → filter p (put_row new rs) ≡ new ∷ []
-    alone_from [] empty untaken = rw passes refl
-    alone_from (r ∷ rs) empty untaken = go (value_cmp (rowid r) (rowid new)) refl (alone_from rs)
-      where
-        split : (p r ≡ false) × (filter p rs ≡ [])
-        split = tail (p r) r (filter p rs) empty
-
-        go : (o : Ordering) → value_cmp (rowid r) (rowid new) ≡ o
-            → (filter p rs ≡ [] → is_taken rs new ≡ false → filter p (put_row new rs) ≡ new ∷ [])
-            → filter p (put_row new (r ∷ rs)) ≡ new ∷ []
-        go Less e later =
-            let more_free : is_taken rs new ≡ false = rw e at untaken in
-            subst (λ o. filter p (match_ordering o (r ∷ put_row new rs) (new ∷ rs) (new ∷ r ∷ rs))
-            ≡ new ∷ []) (sym e)
-            (ap (λ b. cond b (r ∷ filter p (put_row new rs)) (filter p (put_row new rs))) split.0
-            ∙ later split.1 more_free)
-        go Equal e later = absurd (let f = rw e at untaken in cc)
-        go Greater e later =
-            subst (λ o. filter p (match_ordering o (r ∷ put_row new rs) (new ∷ rs) (new ∷ r ∷ rs))
-            ≡ new ∷ []) (sym e)
-            (ap (λ b. cond b (new ∷ filter p (r ∷ rs)) (filter p (r ∷ rs))) passes
-            ∙ ap (λ more. new ∷ more) empty)
+put_alone p new rows passes none free =
+    one_permutation new (filter p (put_row new rows))
+    (subst (λ others. IsPermutation (new ∷ others) (filter p (put_row new rows))) none
+    (put_beside p new rows passes free))
 
 pub none_left : (p : Row → Bool) (rows : List Row) → filter p (filter (λ r. not (p r)) rows) ≡ []
 none_left p rows = filter_none p (filter (λ r. not (p r)) rows)
@@ -203,8 +158,8 @@ module _ {S : Type 0} (g : Ghosts S) (old new : Held S) (store : IsStore (state 
       ) refl) store.auctions w.1 in (
         step_of id (state g old).now (state g new).now done.0.schema
             (put_over id _ before _ store.auctions done.1)
-            (as_was id _ _ store.terms (done.0.tables.1.1.1.0 apart_61))
-            (as_was id _ _ store.seals (done.0.tables.1.1.0 apart_31)),
+            (as_was id _ _ store.terms (done.0.tables.1.1.1.0 (unlike 6 1 refl)))
+            (as_was id _ _ store.seals (done.0.tables.1.1.0 (unlike 3 1 refl))),
         ap (map head_columns) (left_alone id params before _ done.1 (own_id id)),
       )
 
@@ -228,11 +183,11 @@ module _ {S : Type 0} (g : Ghosts S) (old new : Held S) (store : IsStore (state 
       terms_terms 4 refl refl refl
       (rw (cast_null, cast_int (pos auction.version), cast_int (pos auction.reserve)) refl)
       store.terms w.1 in
-      let heads = done.0.tables.1.0 apart_16 in (
+      let heads = done.0.tables.1.0 (unlike 1 6 refl) in (
         step_of id (state g old).now (state g new).now done.0.schema
             (as_was id _ _ store.auctions heads)
             (put_over id _ before _ store.terms done.1)
-            (as_was id _ _ store.seals (done.0.tables.1.1.0 apart_36)),
+            (as_was id _ _ store.seals (done.0.tables.1.1.0 (unlike 3 6 refl))),
         ap (map term_columns) (left_alone id params before _ done.1 (own_id id)),
         heads,
         subst (λ s. IsSound s (state g new).now.trees) done.0.schema w.1.sound,
@@ -245,8 +200,8 @@ module _ {S : Type 0} (g : Ghosts S) (old new : Held S) (store : IsStore (state 
       × ((state g new).now.trees 1 ≡ (state g old).now.trees 1)
       × ((state g new).now.trees 6 ≡ (state g old).now.trees 6)
   only_seals id only seals =
-      let heads = only.tables.1.0 apart_13 in
-      let terms = only.tables.1.1.1.0 apart_63 in (
+      let heads = only.tables.1.0 (unlike 1 3 refl) in
+      let terms = only.tables.1.1.1.0 (unlike 6 3 refl) in (
         step_of id (state g old).now (state g new).now only.schema
             (as_was id _ _ store.auctions heads) (as_was id _ _ store.terms terms) seals,
         heads,
@@ -318,37 +273,6 @@ no_step id db store = record {
     seals = λ other apart. refl;
   };
 }
-
--- a row that the test passes comes beside the others
-put_beside : (p : Row → Bool) (new : Row) (rows : List Row) → p new ≡ true
-    → is_taken rows new ≡ false → IsPermutation (new ∷ filter p rows) (filter p (put_row new rows))
-put_beside p new [] passes free = IsPermutation-same _ _ (rw passes refl)
-put_beside p new (r ∷ rows) passes free =
-    go (value_cmp (rowid r) (rowid new)) refl (put_beside p new rows passes)
-  where
-    swapped : (b : Bool) → IsPermutation (new ∷ filter p rows) (filter p (put_row new rows))
-        → IsPermutation (new ∷ cond b (r ∷ filter p rows) (filter p rows))
-        (cond b (r ∷ filter p (put_row new rows)) (filter p (put_row new rows)))
-    swapped true more = IsPermutation-trans _ (r ∷ new ∷ filter p rows) _
-        (IsPermutation-middle (new ∷ []) r (filter p rows)) (IsPermutation-cons r _ _ more)
-    swapped false more = more
-
-    go : (o : Ordering) → value_cmp (rowid r) (rowid new) ≡ o
-        → (is_taken rows new ≡ false
-        → IsPermutation (new ∷ filter p rows) (filter p (put_row new rows)))
-        → IsPermutation (new ∷ filter p (r ∷ rows)) (filter p (put_row new (r ∷ rows)))
-    go Less e later =
-        let more_free : is_taken rows new ≡ false = rw e at free in
-        subst (λ o. IsPermutation (new ∷ filter p (r ∷ rows))
-        (filter p (match_ordering o (r ∷ put_row new rows) (new ∷ rows) (new ∷ r ∷ rows))))
-        (sym e) (swapped (p r) (later more_free))
-    go Equal e later = absurd (let f = rw e at free in cc)
-    go Greater e later =
-        subst (λ o. IsPermutation (new ∷ filter p (r ∷ rows))
-        (filter p (match_ordering o (r ∷ put_row new rows) (new ∷ rows) (new ∷ r ∷ rows))))
-        (sym e)
-        (IsPermutation-same _ _
-        (sym (ap (λ b. cond b (new ∷ filter p (r ∷ rows)) (filter p (r ∷ rows))) passes)))
 
 -- the rows of the seals' id, as they are shown
 abbrev pub shown_seals : List ℕ → Database → List Row

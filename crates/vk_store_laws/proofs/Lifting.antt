@@ -42,7 +42,8 @@ use Rattle.vk_store_laws.proofs.Texts.{plain_query}
 use Rattle.vk_store_laws.proofs.Selects.{matches_are}
 use Rattle.vk_store_laws.proofs.Finds.{shown_leaves}
 use Rattle.vk_store_laws.proofs.Tables.{updates}
-use Rattle.vk_store_laws.proofs.Making.{count_is, Defines, makes, apart_10, apart_30, apart_60}
+use Rattle.vk_store_laws.proofs.Under.{unlike}
+use Rattle.vk_store_laws.proofs.Making.{count_is, Defines, makes}
 use Rattle.vk_store_laws.proofs.Marks.{IsMarked, names, adds_terms}
 
 -- ---- the texts
@@ -151,11 +152,11 @@ module _ {S : Type 0} (g : Ghosts S) where
       in
       let last = numbers g it.filled new filled.0.store.schema it.number in
       let heads : (state g new).now.trees 1 ≡ (state g it.filled).now.trees 1 =
-      last.tables.1.0 apart_10 in
+      last.tables.1.0 (unlike 1 0 refl) in
       let seals : (state g new).now.trees 3 ≡ (state g it.filled).now.trees 3 =
-      last.tables.1.1.0 apart_30 in
+      last.tables.1.1.0 (unlike 3 0 refl) in
       let rows : (state g new).now.trees 6 ≡ (state g it.filled).now.trees 6 =
-      last.tables.1.1.1.0 apart_60 in
+      last.tables.1.1.1.0 (unlike 6 0 refl) in
       let blank : (state g it.asked).now.trees 6 ≡ [] = ap (λ (d : Database). d.trees 6) asked
       ∙ made.1 in
       let any : (id : List ℕ) → list_any (names id) it.ids

@@ -24,6 +24,7 @@ use Rattle.vk_keeper_sql.specs.Opening.{MakesTables}
 use Rattle.vk_store_laws.specs.Tables.{about, auctions, seals, terms, no_schema, store_schema}
 use Rattle.vk_store_laws.specs.Rows.{IsTableOfRows}
 use Rattle.vk_store_laws.specs.Holding.{IsStore}
+use Rattle.vk_store_laws.proofs.Under.{unlike}
 use Rattle.vk_store_laws.proofs.Tables.{went, same_value, cast_null, cast_int, inserts}
 
 abbrev one_schema : Schema
@@ -66,15 +67,6 @@ number_is = refl
 number_plain : IsPlain (understood store_schema first_number)
 unfolding understood everything first_number
 number_plain = (refl, refl)
-
-pub apart_10 : ◌≡◌ {A = ℕ} 1 0 → ⊥
-apart_10 e = absurd (let f = e in cc)
-
-pub apart_30 : ◌≡◌ {A = ℕ} 3 0 → ⊥
-apart_30 e = absurd (let f = e in cc)
-
-pub apart_60 : ◌≡◌ {A = ℕ} 6 0 → ⊥
-apart_60 e = absurd (let f = e in cc)
 
 -- how many tables a schema has
 pub count_is : (schema it : Schema) (count : ℕ) → schema ≡ it → length schema.tables ≡ count
@@ -129,11 +121,12 @@ module _ {S : Type 0} (g : Ghosts S) where
       let done = inserts store_schema 0 about refl (λ keys db edit. refl) (state g fourth)
       (state g new) whole text params number.0
       (lit Null ∷ col 0 0 ∷ []) 2 refl refl refl (rw (cast_null, cast_int (pos 2)) refl) w in
-      let heads : (state g new).now.trees 1 ≡ [] = done.0.tables.1.0 apart_10
+      let heads : (state g new).now.trees 1 ≡ [] = done.0.tables.1.0 (unlike 1 0 refl)
       ∙ (four.2.1.0 ∙ (three.2.1.0 ∙ two.1)) in
-      let rows : (state g new).now.trees 3 ≡ [] = done.0.tables.1.1.0 apart_30
+      let rows : (state g new).now.trees 3 ≡ [] = done.0.tables.1.1.0 (unlike 3 0 refl)
       ∙ (four.2.1.1.0 ∙ three.1) in
-      let terms : (state g new).now.trees 6 ≡ [] = done.0.tables.1.1.1.0 apart_60 ∙ four.1 in (
+      let terms : (state g new).now.trees 6 ≡ [] =
+      done.0.tables.1.1.1.0 (unlike 6 0 refl) ∙ four.1 in (
         record {
           schema = done.0.schema;
           auctions = subst IsTableOfRows (sym heads) (tt, tt);

@@ -33,36 +33,24 @@ use Rattle.vk_store_laws.proofs.Texts.{terms_terms, keep_terms_is}
 use Rattle.vk_store_laws.proofs.Selects.{told, is_id, filter_same}
 use Rattle.vk_store_laws.proofs.Finds.{and_true}
 use Rattle.vk_store_laws.proofs.Tables.{cast_null, cast_int, replaces}
-use Rattle.vk_store_laws.proofs.Under.{equal_is, own_id, filter_put, table_after_put, table_after_delete}
-use Rattle.vk_store_laws.proofs.Keeping.{apart_13, or_false, put_alone, none_left, apart_16, apart_36, wrote}
+use Rattle.vk_store_laws.proofs.Under.{equal_is, own_id, filter_put, unlike, table_after_put, table_after_delete}
+use Rattle.vk_store_laws.proofs.Keeping.{or_false, put_alone, none_left, wrote}
 
 -- ---- a value and a blob
 
 -- a value of another class ties with no blob
 no_blob : (v : Value) (b : List ℕ) → (class v ≡ 3 → ⊥) → is_eq (value_cmp v (Blob b)) ≡ true
     → v ≡ Blob b
-no_blob Null b apart h = absurd
-    (let e = sym (ap is_eq (value_cmp-apart Null (Blob b) apart)) ∙ h in cc)
-no_blob (Int n) b apart h = absurd
-    (let e = sym (ap is_eq (value_cmp-apart (Int n) (Blob b) apart)) ∙ h in cc)
-no_blob (Real x) b apart h = absurd
-    (let e = sym (ap is_eq (value_cmp-apart (Real x) (Blob b) apart)) ∙ h in cc)
-no_blob (Text t) b apart h = absurd
-    (let e = sym (ap is_eq (value_cmp-apart (Text t) (Blob b) apart)) ∙ h in cc)
 no_blob (Blob c) b apart h = absurd (apart refl)
-
-apart_03 : ◌≡◌ {A = ℕ} 0 3 → ⊥
-apart_03 e = absurd (let f = e in cc)
-
-apart_23 : ◌≡◌ {A = ℕ} 2 3 → ⊥
-apart_23 e = absurd (let f = e in cc)
+no_blob v b apart h =
+    absurd (let e = sym (ap is_eq (value_cmp-apart v (Blob b) apart)) ∙ h in cc)
 
 -- a value that ties with a blob is that blob
 blob_is : (v : Value) (b : List ℕ) → is_eq (value_cmp v (Blob b)) ≡ true → v ≡ Blob b
-blob_is Null b h = no_blob Null b apart_03 h
-blob_is (Int n) b h = no_blob (Int n) b apart_13 h
-blob_is (Real x) b h = no_blob (Real x) b apart_13 h
-blob_is (Text t) b h = no_blob (Text t) b apart_23 h
+blob_is Null b h = no_blob Null b (unlike 0 3 refl) h
+blob_is (Int n) b h = no_blob (Int n) b (unlike 1 3 refl) h
+blob_is (Real x) b h = no_blob (Real x) b (unlike 1 3 refl) h
+blob_is (Text t) b h = no_blob (Text t) b (unlike 2 3 refl) h
 blob_is (Blob c) b h = ap Blob
     ((bytes_eq-Decides c b).0 (sym (is_eq-slice_cmp c b)
     ∙ (ap is_eq (sym (value_cmp-Blob c b)) ∙ h)))
@@ -70,16 +58,13 @@ blob_is (Blob c) b h = ap Blob
 -- a value is bound as itself, but for a float that is no number, which is no blob either
 bound_id : (v : Value) (b : List ℕ)
     → is_eq (value_cmp (bound_value v) (Blob b)) ≡ is_eq (value_cmp v (Blob b))
-bound_id Null b = refl
-bound_id (Int n) b = refl
 bound_id (Real x) b = either (is_nan x)
-    ∙ sym (ap is_eq (value_cmp-apart (Real x) (Blob b) apart_13))
+    ∙ sym (ap is_eq (value_cmp-apart (Real x) (Blob b) (unlike 1 3 refl)))
   where
     either : (n : Bool) → is_eq (value_cmp (cond n Null (Real x)) (Blob b)) ≡ false
-    either true = ap is_eq (value_cmp-apart Null (Blob b) apart_03)
-    either false = ap is_eq (value_cmp-apart (Real x) (Blob b) apart_13)
-bound_id (Text t) b = refl
-bound_id (Blob c) b = refl
+    either true = ap is_eq (value_cmp-apart Null (Blob b) (unlike 0 3 refl))
+    either false = ap is_eq (value_cmp-apart (Real x) (Blob b) (unlike 1 3 refl))
+bound_id v b = refl
 
 -- the row has this value as its id
 abbrev is_of : Value → Row → Bool
@@ -89,10 +74,7 @@ tied_blob : (b : List ℕ) (w : Value) → is_true (binary (Compare Eq Binary) (
     → is_eq (value_cmp (Blob b) w) ≡ true
 unfolding binary
 tied_blob b Null h = absurd (let e = h in cc)
-tied_blob b (Int n) h = sym (told _) ∙ h
-tied_blob b (Real x) h = sym (told _) ∙ h
-tied_blob b (Text t) h = sym (told _) ∙ h
-tied_blob b (Blob c) h = sym (told _) ∙ h
+tied_blob b w h = sym (told _) ∙ h
 
 -- a row of a blob has no other value as its id
 own_only : (w : Value) (b : List ℕ) (row : Row) → is_of w row ≡ true → has_id b row ≡ true
@@ -123,10 +105,7 @@ then_marked false false id old mid new first later = later ∙ first
 mended_is : (w : Value) → mended Replace (placed terms 6) (Null ∷ w ∷ first_row)
     ≡ Null ∷ w ∷ first_row
 mended_is Null = refl
-mended_is (Int n) = refl
-mended_is (Real x) = refl
-mended_is (Text t) = refl
-mended_is (Blob b) = refl
+mended_is w = refl
 
 -- a row that was put for a value in the place of those of the value
 marks : (w : Value) (old new : List Row)
@@ -176,10 +155,10 @@ puts_terms g old new w store ran =
     (sym first_key-plain) (or_false _ ∙ and_true _))
     terms_terms 4 refl refl (mended_is w) (rw (cast_null, cast_int (pos 1), cast_int (pos 0)) refl)
     store.terms run.1 in
-    let heads : (state g new).now.trees 1 ≡ (state g old).now.trees 1 = done.0.tables.1.0 apart_16
-    in
-    let rows : (state g new).now.trees 3 ≡ (state g old).now.trees 3 = done.0.tables.1.1.0 apart_36
-    in (
+    let heads : (state g new).now.trees 1 ≡ (state g old).now.trees 1 =
+    done.0.tables.1.0 (unlike 1 6 refl) in
+    let rows : (state g new).now.trees 3 ≡ (state g old).now.trees 3 =
+    done.0.tables.1.1.0 (unlike 3 6 refl) in (
       record {
         store = record {
           schema = done.0.schema;

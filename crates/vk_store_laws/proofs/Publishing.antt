@@ -1,6 +1,5 @@
 -- What is published of an auction at a store is one.
 use Rattle.std.proofs.Common.{◌≡◌, ℕ, List, Option, Some, None, IfSome, IsSomeAnd, length, refl, sym, ap, subst, ◌∙◌}
-use Rattle.std.specs.Option.{option_or}
 use Rattle.std.specs.FinMap.{get}
 use Rattle.std.proofs.lemmas.Option.{same_Some}
 use Rattle.sqlite.specs.Store.{Ghosts}
@@ -18,14 +17,12 @@ use Rattle.vk_keeper.specs.Ledgers.{Ledger, IsKeptUnder, IsLedger}
 use Rattle.vk_job.specs.Proofs.{drawn_in, lane_in}
 use Rattle.vk_job.specs.Jobs.{plan_of, sale_in, values_of}
 use Rattle.vk_job.specs.Published.{IsChallengeTo, board_of, head_of, reply_of}
-use Rattle.vk_house.specs.declared.errors.HouseErr.{HouseErr}
 use Rattle.vk_house.specs.Commands.{HouseCommand, Prove, Answer, id_of}
-use Rattle.vk_house.specs.Refusals.{refusal_of}
-use Rattle.vk_house.specs.Replies.{HouseReply, Work, reply_to}
-use Rattle.vk_house.specs.Steps.{house_step, in_phase, kept_by, step_at, step_by}
+use Rattle.vk_house.specs.Replies.{HouseReply, Work}
+use Rattle.vk_house.specs.Steps.{house_step, in_phase}
 use Rattle.vk_house.specs.Once.{KeepsAnswer, KeepsAnswers, KeepsSeed}
-use Rattle.vk_house.proofs.Stepping.{here_after}
-use Rattle.vk_auctioneer.proofs.Working.{GivesWork, answer_challenges, prove_seeds, proved_from}
+use Rattle.vk_auctioneer.specs.Lines.{reply_said}
+use Rattle.vk_auctioneer.proofs.Working.{GivesWork, Worked, answer_challenges, prove_seeds, proved_from, worked}
 use Rattle.vk_honest.proofs.Accepted.{answers_are_accepted}
 use Rattle.vk_store_laws.specs.Runs.{Tells}
 use Rattle.vk_store_laws.specs.Serving.{Served, done, Serves, Proves, Answers}
@@ -80,45 +77,22 @@ same_work : (one other : Auction) (sale given : Sale)
     → ◌≡◌ {A = HouseReply} (Work one sale) (Work other given) → one ≡ other
 same_work one other sale given is = cc
 
-work_stands : (command : HouseCommand) → GivesWork command → (later : Option Auction)
-    (auction : Auction) (sale : Sale) → reply_to command later ≡ Work auction sale
-    → later ≡ Some auction
-work_stands command works None auction sale is = cc
-work_stands command works (Some later) auction sale is =
-    ap Some (same_work later auction (sale_in later) sale (sym (works later) ∙ is))
-
-gave_by : (command : HouseCommand) → GivesWork command → (refusal : Option HouseErr)
-    (answer later : Option Auction) (auction : Auction) (sale : Sale)
-    → (step_by refusal command answer later).reply ≡ Work auction sale
-    → (refusal ≡ None) × (option_or later answer ≡ Some auction)
-    × ((step_by refusal command answer later).kept ≡ later)
-gave_by command works (Some refusal) answer later auction sale is = cc
-gave_by command works None answer later auction sale is =
-    (refl, work_stands command works (option_or later answer) auction sale is, refl)
-
--- a command that gave work was not refused, and the auction of the work stands under its id
-record Gave (old new : Ledger) (command : HouseCommand) (auction : Auction) : Type 0 where
-  passes : refusal_of command (get old (id_of command)) ≡ None
-  later : option_or (kept_by command (get old (id_of command))) (get old (id_of command))
-      ≡ Some auction
-  stands : get new (id_of command) ≡ Some auction
-
+-- a command that gave work was done on the auction of the work
 gave : (old new : Ledger) (command : HouseCommand) → GivesWork command → (auction : Auction)
-    (sale : Sale) → house_step old command ≡ (Work auction sale, new)
-    → Gave old new command auction
-unfolding step_at
+    (sale : Sale) → house_step old command ≡ (Work auction sale, new) → Worked old command auction
 gave old new command works auction sale is =
-    let id = id_of command in
-    let answer = get old id in
-    let by = gave_by command works (refusal_of command answer) answer (kept_by command answer)
-    auction sale (ap (λ (r : HouseReply × Ledger). r.0) is) in
-    record {
-      passes = by.0;
-      later = by.1;
-      stands = ap (λ (r : HouseReply × Ledger). get r.1 id) (sym is)
-          ∙ here_after old id (step_at command answer).kept
-          ∙ ap (λ k. option_or k answer) by.2 ∙ by.1;
-    }
+    let reply = ap (λ (r : HouseReply × Ledger). r.0) is in
+    let did = worked old command works
+    (ap (λ (r : HouseReply). (reply_said command r).status) reply) in
+    subst (Worked old command)
+    (same_work did.0 auction (sale_in did.0) sale (sym did.1.reply ∙ reply)) did.1
+
+-- which stands under its id afterwards
+stands_after : (old new : Ledger) (command : HouseCommand) (reply : HouseReply) (auction : Auction)
+    → house_step old command ≡ (reply, new) → Worked old command auction
+    → get new (id_of command) ≡ Some auction
+stands_after old new command reply auction is did =
+    ap (λ (r : HouseReply × Ledger). get r.1 (id_of command)) (sym is) ∙ did.kept
 
 -- ---- what lasts
 
@@ -150,7 +124,8 @@ proved_lasts old new last id seed auction sale is keeps =
     let seeded = prove_seeds id seed (get old id) auction did.passes did.later in
     published_by last id auction (get last id) refl
     (board_stays auction seed auction.phase (get last id) seeded.seed_is seeded.seed_is
-    (keeps_at new last id auction keeps did.stands))
+    (keeps_at new last id auction keeps
+    (stands_after old new (Prove id seed) (Work auction sale) auction is did)))
 
 asked_of : (auction : Auction) (challenge : Challenge) → IsAuction auction
     → challenge_of auction.phase ≡ Some challenge → IsChallengeTo auction challenge
@@ -166,13 +141,14 @@ answered_lasts : (old new last : Ledger) (id : List ℕ) (challenge : Challenge)
 answered_lasts old new last id challenge auction sale ledger is keeps =
     let did = gave old new (Answer id challenge) (λ a. refl) auction sale is in
     let asked = answer_challenges id challenge (get old id) auction did.passes did.later in
+    let stands = stands_after old new (Answer id challenge) (Work auction sale) auction is did in
     let under : IsKeptUnder id auction =
-    subst (λ answer. IfSome answer (IsKeptUnder id)) did.stands (ledger id) in
+    subst (λ answer. IfSome answer (IsKeptUnder id)) stands (ledger id) in
     let proved = proved_from auction asked.seed under.right asked.seeded.seed_is asked.seeded.tapes
     in
     record {
       stands = answer_stays auction challenge auction.phase (get last id) asked.challenge_is
-          (keeps_at new last id auction keeps did.stands);
+          (keeps_at new last id auction keeps stands);
       challenge_is = asked.challenge_is;
       accepted = answers_are_accepted auction challenge proved
           (asked_of auction challenge under.right asked.challenge_is);

@@ -1,6 +1,6 @@
 -- A store that is as it has to be is refused by its connection alone.
 use Rattle.std.proofs.Common.{◌≡◌, ◌∙◌, ℕ, arith, length, pos, true, false, List, [], ◌∷◌, map, flat_map, min, codes, inl, inr, refl, ap, sym, subst, Result, Ok, Err}
-use Rattle.std.specs.Prelude.{◌≢◌, IsPermutation}
+use Rattle.std.specs.Prelude.{◌≢◌, IsPermutation, None}
 use Rattle.sqlite_value.specs.declared.value.Value.{Value}
 use Rattle.sqlite_value.specs.declared.value.Value.TheVariants.{Null, Int}
 use Rattle.sqlite_value.specs.Order.{Row}
@@ -22,7 +22,7 @@ use Rattle.vk_io.specs.declared.errors.OutsideErr.{OutsideErr}
 use Rattle.vk_keeper_sql.specs.declared.errors.OpenErr.{OpenErr}
 use Rattle.vk_keeper_sql.specs.declared.layout.Layout.{Layout}
 use Rattle.vk_keeper_sql.specs.declared.layout.Layout.TheVariants.{Blank, First, Second, Other}
-use Rattle.vk_keeper_sql.specs.Layouts.{AreFirst, HasLayout, HasShape, IsFirst, IsSecond, about_shape, auction_shape, seal_shape, terms_shape}
+use Rattle.vk_keeper_sql.specs.Layouts.{AreFirst, HasLayout, HasShape, IsFirst, IsSecond, TableShape, shape_of}
 use Rattle.vk_keeper_sql.specs.Refusals.{open_refusal}
 use Rattle.vk_keeper_sql.specs.Statements.{number_query}
 use Rattle.vk_keeper_sql.specs.Opening.{filling, making}
@@ -90,39 +90,20 @@ number_shown schema number is plain old new rows rowid has one shown =
 
 -- ---- its tables
 
-about_is : HasShape about_shape about
-about_is = record {
-  plain = record { name = refl; rowid = refl; checks = refl; references = refl };
-  columns = refl;
-  keys = refl;
-}
-
-auctions_are : HasShape auction_shape (placed auctions 1)
-auctions_are = record {
-  plain = record { name = refl; rowid = refl; checks = refl; references = refl };
-  columns = refl;
-  keys = refl;
-}
-
-seals_are : HasShape seal_shape (placed seals 3)
-seals_are = record {
-  plain = record { name = refl; rowid = refl; checks = refl; references = refl };
-  columns = refl;
-  keys = refl;
-}
-
-terms_are : HasShape terms_shape (placed terms 6)
-terms_are = record {
-  plain = record { name = refl; rowid = refl; checks = refl; references = refl };
-  columns = refl;
-  keys = refl;
+shaped : (shape : TableShape) (table : Table) → table.name ≡ shape.name → table.key ≡ None
+    → table.checks ≡ [] → table.references ≡ [] → map shape_of table.columns ≡ shape.columns
+    → table.uniques ≡ shape.keys → HasShape shape table
+shaped shape table name rowid checks references columns keys = record {
+  plain = record { name = name; rowid = rowid; checks = checks; references = references };
+  columns = columns;
+  keys = keys;
 }
 
 are_first : (more : List Table) → AreFirst (about ∷ placed auctions 1 ∷ placed seals 3 ∷ more)
 are_first more = record {
-  about = (about, (0, omega arith, refl), about_is);
-  auction = (placed auctions 1, (1, omega arith, refl), auctions_are);
-  seal = (placed seals 3, (2, omega arith, refl), seals_are);
+  about = (about, (0, omega arith, refl), shaped _ _ refl refl refl refl refl refl);
+  auction = (placed auctions 1, (1, omega arith, refl), shaped _ _ refl refl refl refl refl refl);
+  seal = (placed seals 3, (2, omega arith, refl), shaped _ _ refl refl refl refl refl refl);
 }
 
 first_is : IsFirst first_store_schema
@@ -131,7 +112,7 @@ first_is = record { first = are_first []; tables = refl; indexes = refl; views =
 second_is : IsSecond store_schema
 second_is = record {
   first = are_first (placed terms 6 ∷ []);
-  terms = (placed terms 6, (3, omega arith, refl), terms_are);
+  terms = (placed terms 6, (3, omega arith, refl), shaped _ _ refl refl refl refl refl refl);
   tables = refl;
   indexes = refl;
   views = refl;

@@ -1,5 +1,5 @@
 -- What is served at a store leads its ledger as the house's steps do.
-use Rattle.std.proofs.Common.{◌≡◌, ◌⊎◌, ℕ, zero, suc, List, [], ◌∷◌, Option, Some, None, option_map, IfSome, refl, sym, ap, subst, inl, inr, ◌∙◌, arith}
+use Rattle.std.proofs.Common.{◌≡◌, ◌⊎◌, ℕ, zero, suc, List, [], ◌∷◌, Option, Some, None, IfSome, refl, sym, ap, subst, inl, inr, ◌∙◌, arith}
 use Rattle.std.specs.Prelude.{Contains}
 use Rattle.std.specs.List.{AllByRecursion}
 use Rattle.std.specs.Option.{option_or}
@@ -7,55 +7,46 @@ use Rattle.std.specs.FinMap.{get, insert}
 use Rattle.sqlite.specs.Store.{Ghosts}
 use Rattle.sqlite.specs.Held.{Held}
 use Rattle.vk_keeper.specs.declared.auction.Auction.{Auction}
-use Rattle.vk_keeper.specs.declared.auction.Phase.{Phase}
 use Rattle.vk_keeper.specs.Ledgers.{Ledger, IsKeptUnder, IsLedger}
-use Rattle.vk_house.specs.declared.errors.HouseErr.{HouseErr}
-use Rattle.vk_house.specs.declared.errors.HouseErr.TheVariants.{KeeperFailed, NoMemory}
-use Rattle.vk_house.specs.Commands.{HouseCommand, Announce, AnnounceReserve, Submit, Prove, Answer, Show, id_of}
-use Rattle.vk_house.specs.Refusals.{refusal_of}
-use Rattle.vk_house.specs.Replies.{HouseReply, Refused, reply_to}
-use Rattle.vk_house.specs.Steps.{HouseCall, house_step, in_phase, kept_by, ledger_after, phase_answered, phase_proved, step_at, step_by}
+use Rattle.vk_house.specs.Commands.{HouseCommand, id_of}
+use Rattle.vk_house.specs.Replies.{HouseReply}
+use Rattle.vk_house.specs.Steps.{house_step, ledger_after, step_at}
 use Rattle.vk_house.specs.Once.{KeepsAnswers}
 use Rattle.vk_house.proofs.Once.{call_keeps, keeps_on, keeps_same}
+use Rattle.vk_house.proofs.Stepping.{OfChanges, step_is_call, value_after, value_each}
 use Rattle.vk_store_laws.specs.Runs.{Act, found, kept, refused, opened, stopped, LeadOn, Tells}
 use Rattle.vk_store_laws.specs.Serving.{Served, done, halted, nothing, keeping, calls_of, KeepsNothing, IsMade, Serves, StepsTo, StepOn}
 use Rattle.vk_store_laws.proofs.Runs.{IsSettled, run_tells}
 
 -- ---- what a step keeps
 
--- an auction under the command's own id
-own_phase : (id : List ℕ) (auction : Auction) (phase : Option Phase) → auction.id ≡ id
-    → IfSome (option_map (in_phase auction) phase) (λ k. k.id ≡ id)
-own_phase id auction None own = tt
-own_phase id auction (Some phase) own = own
+-- an auction stands under the command's own id
+abbrev StaysOwn : HouseCommand → Option Auction → Option Auction → Type 0
+StaysOwn command answer later = IfSome answer (λ a. a.id ≡ id_of command)
+    → IfSome later (λ a. a.id ≡ id_of command)
 
-own_kept : (command : HouseCommand) (answer : Option Auction)
-    → IfSome answer (λ a. a.id ≡ id_of command)
-    → IfSome (kept_by command answer) (λ k. k.id ≡ id_of command)
-own_kept (Announce id width lanes) answer own = refl
-own_kept (AnnounceReserve id width lanes reserve) answer own = refl
-own_kept (Submit id seal secret) None own = tt
-own_kept (Submit id seal secret) (Some auction) own = own
-own_kept (Prove id seed) None own = tt
-own_kept (Prove id seed) (Some auction) own =
-    own_phase id auction (phase_proved seed auction.phase) own
-own_kept (Answer id challenge) None own = tt
-own_kept (Answer id challenge) (Some auction) own =
-    own_phase id auction (phase_answered challenge auction.phase) own
-own_kept (Show id) answer own = tt
+of_own : OfChanges StaysOwn
+of_own = record {
+  same = λ command answer own. own;
+  opens = λ id width lanes own. refl;
+  reserves = λ id width lanes reserve own. refl;
+  joins = λ id seal secret held may_join own. own;
+  proves = λ id seed held some none_dry own. own;
+  answers = λ id seed challenge held each own. own;
+}
 
-own_by : (command : HouseCommand) (answer : Option Auction) (refusal : Option HouseErr)
-    → IfSome answer (λ a. a.id ≡ id_of command)
-    → IfSome (step_by refusal command answer (kept_by command answer)).kept
-    (λ k. k.id ≡ id_of command)
-own_by command answer (Some refusal) own = tt
-own_by command answer None own = own_kept command answer own
+kept_so : (P : Auction → Type 0) (kept answer : Option Auction)
+    → IfSome (option_or kept answer) P → IfSome kept P
+kept_so P None answer is = tt
+kept_so P (Some auction) answer is = is
 
 own_step : (command : HouseCommand) (answer : Option Auction)
     → IfSome answer (λ a. a.id ≡ id_of command)
     → IfSome (step_at command answer).kept (λ k. k.id ≡ id_of command)
-unfolding step_at
-own_step command answer own = own_by command answer (refusal_of command answer) own
+unfolding value_after
+own_step command answer own =
+    kept_so (λ k. k.id ≡ id_of command) (step_at command answer).kept answer
+    (value_each StaysOwn of_own command answer own)
 
 -- what stands under an id in a ledger is of that id
 own_of : (id : List ℕ) (answer : Option Auction) → IfSome answer (IsKeptUnder id)
@@ -66,45 +57,6 @@ own_of id (Some auction) is = is.own
 own_found : (ledger : Ledger) (id : List ℕ) → IsLedger ledger
     → IfSome (get ledger id) (λ a. a.id ≡ id)
 own_found ledger id right = own_of id (get ledger id) (right id)
-
--- a refused step keeps nothing, so each step is a call
-unrefused_keeps : (command : HouseCommand) (answer later : Option Auction) (told : HouseErr)
-    → reply_to command (option_or later answer) ≡ Refused told → later ≡ None
-unrefused_keeps command answer None told is = refl
-unrefused_keeps (Announce id width lanes) answer (Some later) told is = cc
-unrefused_keeps (AnnounceReserve id width lanes reserve) answer (Some later) told is = cc
-unrefused_keeps (Submit id seal secret) answer (Some later) told is = cc
-unrefused_keeps (Prove id seed) answer (Some later) told is = cc
-unrefused_keeps (Answer id challenge) answer (Some later) told is = cc
-unrefused_keeps (Show id) answer (Some later) told is = cc
-
-refused_keeps : (command : HouseCommand) (answer : Option Auction) (refusal : Option HouseErr)
-    (told : HouseErr)
-    → (step_by refusal command answer (kept_by command answer)).reply ≡ Refused told
-    → (step_by refusal command answer (kept_by command answer)).kept ≡ None
-refused_keeps command answer (Some refusal) told is = refl
-refused_keeps command answer None told is =
-    unrefused_keeps command answer (kept_by command answer) told is
-
-step_keeps_none : (command : HouseCommand) (answer : Option Auction) (told : HouseErr)
-    → (step_at command answer).reply ≡ Refused told → (step_at command answer).kept ≡ None
-unfolding step_at
-step_keeps_none command answer told is =
-    refused_keeps command answer (refusal_of command answer) told is
-
-stays_refused : (old new : Ledger) (command : HouseCommand) (told : HouseErr)
-    → house_step old command ≡ (Refused told, new) → new ≡ old
-stays_refused old new command told is =
-    let answer = get old (id_of command) in
-    let none = step_keeps_none command answer told (ap (λ (r : HouseReply × Ledger). r.0) is) in
-    sym (ap (λ (r : HouseReply × Ledger). r.1) is) ∙ ap (ledger_after old (id_of command)) none
-
-step_is_call : (old new : Ledger) (command : HouseCommand) (reply : HouseReply)
-    → house_step old command ≡ (reply, new) → HouseCall old command reply new
-step_is_call old new command (Refused KeeperFailed) is =
-    stays_refused old new command KeeperFailed is
-step_is_call old new command (Refused NoMemory) is = stays_refused old new command NoMemory is
-step_is_call old new command reply is = is
 
 -- ---- the ledger
 

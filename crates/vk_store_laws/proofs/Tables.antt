@@ -4,7 +4,7 @@ use Rattle.std.specs.Prelude.{None, Some, ◌&&◌, ◌/◌, slice_get, IsPermut
 use Rattle.std.specs.List.{AllByRecursion, list_all, list_any}
 use Rattle.std.proofs.lemmas.List.Sorted.{IsPermutation-map}
 use Rattle.sqlite_value.specs.declared.value.Value.{Value}
-use Rattle.sqlite_value.specs.declared.value.Value.TheVariants.{Null, Int, Real, Text, Blob}
+use Rattle.sqlite_value.specs.declared.value.Value.TheVariants.{Null, Int}
 use Rattle.sqlite_value.specs.Order.{Row, value_cmp}
 use Rattle.sqlite_value.specs.Keys.{plain}
 use Rattle.sqlite_value.specs.declared.keys.Key.{Key}
@@ -79,10 +79,7 @@ tied_numbers : (v : Value) (n : ℤ) → is_true (binary (Compare Eq Binary) v (
     → is_eq (value_cmp v (Int n)) ≡ true
 unfolding binary
 tied_numbers Null n h = absurd (let e = h in cc)
-tied_numbers (Int m) n h = sym (told _) ∙ h
-tied_numbers (Real x) n h = sym (told _) ∙ h
-tied_numbers (Text t) n h = sym (told _) ∙ h
-tied_numbers (Blob b) n h = sym (told _) ∙ h
+tied_numbers v n h = sym (told _) ∙ h
 
 and_true_left : (b : Bool) → (b && true) ≡ true → b ≡ true
 and_true_left true h = refl
@@ -237,13 +234,12 @@ module _ (schema : Schema) (at : ℕ) (table : Table) (placed : slice_get schema
   module _ (key : Row → Bool) (uncounted : table.is_counted ≡ false) (recasts : (n : ℤ) → cast_row table (Int n ∷ params) ≡ Int n ∷ params)
       (keyed : (n : ℤ) (r : Row) → list_any (shares None table (Int n ∷ params) r) schema.indexes
       ≡ key r) where
-    task : Task
+    abbrev task : Task
     task = task_on table
 
     puts : (n : ℤ) (mid : Trees) (one : Written) → Puts task (Int n ∷ params) mid (Ok one)
         → (one.trees table.tree ≡ put_row (Int n ∷ params) (mid table.tree))
         × (is_taken (mid table.tree) (Int n ∷ params) ≡ false) × Others mid one.trees
-    unfolding task
     puts n mid one h =
         let w = went h in
         let row = Int n ∷ params in
@@ -259,38 +255,31 @@ module _ (schema : Schema) (at : ℕ) (table : Table) (placed : slice_get schema
           subst (Others mid) (sym is) applied.tables,
         )
 
-    number : ℤ
+    abbrev number : ℤ
     number = next_rowid (old.now.trees table.tree)
 
-    row : Row
+    abbrev row : Row
     row = Int number ∷ params
 
-    rows : List Row
+    abbrev rows : List Row
     rows = old.now.trees table.tree
 
     no_tie : IsTableOfRows rows → (r : Row) → Has rows r
         → agree plain (0 ∷ []) r (0 ∷ []) row ≡ true → ⊥
-    unfolding row number rows
     no_tie sorted r h tie =
-        let same : is_eq (value_cmp (rowid r) (Int (next_rowid (old.now.trees table.tree))))
-        ≡ true = tied_numbers (rowid r) _
+        let same : is_eq (value_cmp (rowid r) (Int number)) ≡ true = tied_numbers (rowid r) _
         (and_true_left _ (subst
-        (λ (k : Key). (equal k.collation (rowid r) (Int (next_rowid (old.now.trees table.tree)))
-        && true) ≡ true) first_key-plain tie)) in
-        let taken : is_taken (old.now.trees table.tree)
-        (Int (next_rowid (old.now.trees table.tree)) ∷ params) ≡ true =
-        some_from (λ y. is_eq
-        (value_cmp (rowid y) (Int (next_rowid (old.now.trees table.tree)))))
-        (old.now.trees table.tree) r h same in
-        false≢true (sym (next_is_free Chosen (old.now.trees table.tree) params sorted.0 sorted.1)
-        ∙ taken)
+        (λ (k : Key). (equal k.collation (rowid r) (Int number) && true) ≡ true) first_key-plain
+        tie)) in
+        let taken : is_taken rows row ≡ true =
+        some_from (λ y. is_eq (value_cmp (rowid y) (Int number))) rows r h same in
+        false≢true (sym (next_is_free Chosen rows params sorted.0 sorted.1) ∙ taken)
 
     conflicts_key : IsTableOfRows rows → (r : Row) → Has rows r
         → conflicts None schema.indexes table row r ≡ key r
-    unfolding row number rows
     conflicts_key sorted r h = elim (cases_Bool (agree plain (0 ∷ []) r (0 ∷ []) row)) [
       | inl tie ↦ absurd (no_tie sorted r h tie)
-      | inr apart ↦ rw apart (keyed (next_rowid (old.now.trees table.tree)) r)
+      | inr apart ↦ rw apart (keyed number r)
     ]
 
     spares_all : (p : Row → Bool) (xs : List Row) → ((r : Row) → Has xs r → p r ≡ true → ⊥)
@@ -299,22 +288,20 @@ module _ (schema : Schema) (at : ℕ) (table : Table) (placed : slice_get schema
         (λ r h. elim (cases_Bool (p r))
         [ inl passes ↦ absurd (none r h passes) | inr fails ↦ ap not fails ])
 
-    -- the rows that conflict go first
-    clears : IsTableOfRows (old.now.trees table.tree) → (found : List Row)
-        → AreConflicts None schema.indexes table (old.now.trees table.tree)
-        (Int (next_rowid (old.now.trees table.tree)) ∷ params) found
-        → (one : Written) → Clears task Replace
-        (Int (next_rowid (old.now.trees table.tree)) ∷ params) old.now.trees found (Ok one)
-        → (mid : List Row) × (mid ≡ filter (λ r. not (key r)) (old.now.trees table.tree))
-        × (one.trees table.tree
-        ≡ put_row (Int (next_rowid (old.now.trees table.tree)) ∷ params) mid)
-        × (is_taken mid (Int (next_rowid (old.now.trees table.tree)) ∷ params) ≡ false)
+    -- the rows with the key are gone, the row was put, and no other table was written
+    abbrev IsReplaced : Written → Type 0
+    IsReplaced one = (mid : List Row) × (mid ≡ filter (λ r. not (key r)) rows)
+        × (one.trees table.tree ≡ put_row row mid) × (is_taken mid row ≡ false)
         × Others old.now.trees one.trees
-    unfolding row number rows task
+
+    -- the rows that conflict go first
+    clears : IsTableOfRows rows → (found : List Row)
+        → AreConflicts None schema.indexes table rows row found → (one : Written)
+        → Clears task Replace row old.now.trees found (Ok one) → IsReplaced one
     clears sorted [] all one h =
         let put = puts number old.now.trees one h in (
-          old.now.trees table.tree,
-          sym (spares_all key (old.now.trees table.tree)
+          rows,
+          sym (spares_all key rows
               (λ r has passes. all.complete r has (conflicts_key sorted r has ∙ passes))),
           put.0,
           put.1,
@@ -348,15 +335,8 @@ module _ (schema : Schema) (at : ℕ) (table : Table) (placed : slice_get schema
               ∙ all_has _ schema.tables other applied.tables has apart),
         )
 
-    tries : IsTableOfRows (old.now.trees table.tree) → (one : Written)
-        → Tries task Replace [] (Int (next_rowid (old.now.trees table.tree)) ∷ params) old.now.trees
-        (Ok one)
-        → (mid : List Row) × (mid ≡ filter (λ r. not (key r)) (old.now.trees table.tree))
-        × (one.trees table.tree
-        ≡ put_row (Int (next_rowid (old.now.trees table.tree)) ∷ params) mid)
-        × (is_taken mid (Int (next_rowid (old.now.trees table.tree)) ∷ params) ≡ false)
-        × Others old.now.trees one.trees
-    unfolding task
+    tries : IsTableOfRows rows → (one : Written)
+        → Tries task Replace [] row old.now.trees (Ok one) → IsReplaced one
     tries sorted one (inl no_rowid) = absurd (let e = no_rowid.1 in cc)
     tries sorted one (inr (None, judged, went_on)) = clears sorted went_on.0 went_on.1 one went_on.2
     tries sorted one (inr (Some why, judged, stopped)) = absurd (let e = stopped in cc)
@@ -369,7 +349,6 @@ module _ (schema : Schema) (at : ℕ) (table : Table) (placed : slice_get schema
         → OnlyTable table.tree schema old.now new.now
         × PutsRow params (filter (λ r. not (key r)) (old.now.trees table.tree))
         (new.now.trees table.tree)
-    unfolding task
     replaces terms width unstamped valued mends casts sorted w =
         let db = old.now.trees in
         let command = InsertOr at Replace (Values terms width) [] in
@@ -391,8 +370,7 @@ module _ (schema : Schema) (at : ℕ) (table : Table) (placed : slice_get schema
         let trees : tried.0.0.trees ≡ one.0.trees =
         ap (λ (p : Written × ℤ). p.0.trees) (same_value one.2) in
         let source : with_rowid (if table.is_counted then Above (count_of counter.0) else Chosen)
-        (db table.tree) (cast_row table (mended Replace table (Null ∷ params)))
-        ≡ Int (next_rowid (db table.tree)) ∷ params =
+        (db table.tree) (cast_row table (mended Replace table (Null ∷ params))) ≡ row =
         ap (λ b. with_rowid (if b then Above (count_of counter.0) else Chosen) (db table.tree)
         (cast_row table (mended Replace table (Null ∷ params)))) uncounted
         ∙ (ap (λ r. with_rowid Chosen (db table.tree) (cast_row table r)) mends
@@ -403,10 +381,8 @@ module _ (schema : Schema) (at : ℕ) (table : Table) (placed : slice_get schema
         in (
           only one.0.trees (ap (λ (d : Database). d.schema) now) is made.4,
           record {
-            number = next_rowid (db table.tree);
-            rows = ap (λ (t : Trees). t table.tree) is
-                ∙ (made.2 ∙ ap (put_row (Int (next_rowid (db table.tree)) ∷ params)) made.1);
-            free = subst (λ mid. is_taken mid (Int (next_rowid (db table.tree)) ∷ params) ≡ false)
-                made.1 made.3;
+            number = number;
+            rows = ap (λ (t : Trees). t table.tree) is ∙ (made.2 ∙ ap (put_row row) made.1);
+            free = subst (λ mid. is_taken mid row ≡ false) made.1 made.3;
           },
         )

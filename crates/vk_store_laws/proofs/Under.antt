@@ -1,9 +1,11 @@
 -- The rows of one id after a row was put, or some were taken.
-use Rattle.std.proofs.Common.{◌≡◌, ◌≢◌, inl, inr, ℕ, Bool, true, false, cond, not, List, [], ◌∷◌, filter, refl, ap, sym, subst, ◌∙◌, Ordering, Less, Equal, Greater, is_eq}
-use Rattle.std.specs.Prelude.{bytes_eq}
+use Rattle.std.proofs.Common.{◌≡◌, ◌≢◌, inl, inr, ℕ, Bool, true, false, cond, not, List, [], ◌∷◌, filter, refl, ap, sym, subst, ◌∙◌, Ordering, Less, Equal, Greater, is_eq, ◌++◌, eqb}
+use Rattle.std.specs.Prelude.{bytes_eq, IsPermutation}
 use Rattle.std.specs.Ordering.{match_ordering}
-use Rattle.std.proofs.lemmas.Bool.{cases_Bool}
+use Rattle.std.proofs.lemmas.Bool.{cases_Bool, eq-eqb, false≢true}
 use Rattle.std.proofs.lemmas.Cmp.{tied_itself}
+use Rattle.std.proofs.lemmas.List.Elements.{filter-append}
+use Rattle.std.proofs.lemmas.List.Sorted.{IsPermutation-middle, IsPermutation-sym, IsPermutation-trans}
 use Rattle.std.proofs.lemmas.Map.Text.{is_eq-slice_cmp}
 use Rattle.std.proofs.lemmas.Slice.Eq.{bytes_eq-Decides}
 use Rattle.sqlite_value.specs.declared.value.Value.{Value}
@@ -12,6 +14,7 @@ use Rattle.sqlite_value.specs.Order.{Row, column, value_cmp}
 use Rattle.sqlite_value.proofs.OrderLemmas.{value_cmp_total, value_cmp-Blob}
 use Rattle.sqlite_trees.specs.Tree.{rowid, put_row}
 use Rattle.sqlite_trees.specs.View.{is_int}
+use Rattle.sqlite_trees.proofs.ListLemmas.{IsPermutation-same}
 use Rattle.sqlite_trees.proofs.TreeLemmas.{IsTable-put_row}
 use Rattle.sqlite_rules.specs.Edit.{is_taken}
 use Rattle.sqlite_rules.proofs.ListLemmas.{all_has, all_from, has_filtered}
@@ -19,6 +22,10 @@ use Rattle.sqlite_rules.proofs.TableLemmas.{put_has}
 use Rattle.sqlite_catalog.proofs.LayoutLemmas.{ascending_filter}
 use Rattle.sqlite_catalog.proofs.ListFacts.{filter_within}
 use Rattle.vk_store_laws.specs.Rows.{has_id, under, IsTableOfRows, PutsRow}
+
+-- numbers that aren't the same
+pub unlike : (m n : ℕ) → eqb m n ≡ false → m ≡ n → ⊥
+unlike m n other same = false≢true (sym other ∙ eq-eqb m n same)
 
 pub equal_is : (o : Ordering) → is_eq o ≡ true → o ≡ Equal
 equal_is Less h = absurd (let e = h in cc)
@@ -43,26 +50,67 @@ other_id other id apart = elim (cases_Bool (is_eq (value_cmp (Blob id) (Blob oth
   | inr differs ↦ differs
 ]
 
+-- where a row comes among others, none of which has its rowid
+record Comes (new : Row) (rows : List Row) : Type 0 where
+  before : List Row
+  behind : List Row
+  were : rows ≡ before ++ behind
+  are : put_row new rows ≡ before ++ (new ∷ behind)
+
+comes : (new : Row) (rows : List Row) → is_taken rows new ≡ false → Comes new rows
+comes new [] free = record { before = []; behind = []; were = refl; are = refl }
+comes new (r ∷ rows) free = go (value_cmp (rowid r) (rowid new)) refl (comes new rows)
+  where
+    go : (o : Ordering) → value_cmp (rowid r) (rowid new) ≡ o
+        → (is_taken rows new ≡ false → Comes new rows) → Comes new (r ∷ rows)
+    go Less e later =
+        let more_free : is_taken rows new ≡ false = rw e at free in
+        let more = later more_free in
+        record {
+          before = r ∷ more.before;
+          behind = more.behind;
+          were = ap (λ rest. r ∷ rest) more.were;
+          are = ap (λ o. match_ordering o (r ∷ put_row new rows) (new ∷ rows) (new ∷ r ∷ rows)) e
+              ∙ ap (λ rest. r ∷ rest) more.are;
+        }
+    go Equal e later = absurd (let f = rw e at free in cc)
+    go Greater e later = record {
+      before = [];
+      behind = r ∷ rows;
+      were = refl;
+      are = ap (λ o. match_ordering o (r ∷ put_row new rows) (new ∷ rows) (new ∷ r ∷ rows)) e;
+    }
+
+-- what a test passes of them, with the row and without it
+passed_with : (p : Row → Bool) (new : Row) (rows : List Row) (put : Comes new rows) (test : Bool)
+    → p new ≡ test → filter p (put_row new rows) ≡ filter p put.before
+    ++ cond test (new ∷ filter p put.behind) (filter p put.behind)
+passed_with p new rows put test is =
+    ap (filter p) put.are ∙ filter-append p put.before (new ∷ put.behind)
+    ∙ ap (λ b. filter p put.before ++ cond b (new ∷ filter p put.behind) (filter p put.behind)) is
+
+passed_before : (p : Row → Bool) (new : Row) (rows : List Row) (put : Comes new rows)
+    → filter p rows ≡ filter p put.before ++ filter p put.behind
+passed_before p new rows put =
+    ap (filter p) put.were ∙ filter-append p put.before put.behind
+
 -- a row that the test doesn't pass goes in without a trace
 pub filter_put : (p : Row → Bool) (new : Row) (rows : List Row) → p new ≡ false
     → is_taken rows new ≡ false → filter p (put_row new rows) ≡ filter p rows
-filter_put p new [] fails free = rw fails refl
-filter_put p new (r ∷ rows) fails free =
-    go (value_cmp (rowid r) (rowid new)) refl (filter_put p new rows fails)
-  where
-    go : (o : Ordering) → value_cmp (rowid r) (rowid new) ≡ o
-        → (is_taken rows new ≡ false → filter p (put_row new rows) ≡ filter p rows)
-        → filter p (put_row new (r ∷ rows)) ≡ filter p (r ∷ rows)
-    go Less e later =
-        let more_free : is_taken rows new ≡ false = rw e at free in
-        subst (λ o. filter p (match_ordering o (r ∷ put_row new rows) (new ∷ rows) (new ∷ r ∷ rows))
-        ≡ filter p (r ∷ rows)) (sym e)
-        (ap (λ more. cond (p r) (r ∷ more) more) (later more_free))
-    go Equal e later = absurd (let f = rw e at free in cc)
-    go Greater e later =
-        subst (λ o. filter p (match_ordering o (r ∷ put_row new rows) (new ∷ rows) (new ∷ r ∷ rows))
-        ≡ filter p (r ∷ rows)) (sym e)
-        (ap (λ b. cond b (new ∷ filter p (r ∷ rows)) (filter p (r ∷ rows))) fails)
+filter_put p new rows fails free =
+    let put = comes new rows free in
+    passed_with p new rows put false fails ∙ sym (passed_before p new rows put)
+
+-- a row that the test passes comes beside the others
+pub put_beside : (p : Row → Bool) (new : Row) (rows : List Row) → p new ≡ true
+    → is_taken rows new ≡ false → IsPermutation (new ∷ filter p rows) (filter p (put_row new rows))
+put_beside p new rows passes free =
+    let put = comes new rows free in
+    IsPermutation-trans _ (new ∷ (filter p put.before ++ filter p put.behind)) _
+    (IsPermutation-same _ _ (ap (λ all. new ∷ all) (passed_before p new rows put)))
+    (IsPermutation-trans _ (filter p put.before ++ (new ∷ filter p put.behind)) _
+    (IsPermutation-sym _ _ (IsPermutation-middle (filter p put.before) new (filter p put.behind)))
+    (IsPermutation-same _ _ (sym (passed_with p new rows put true passes))))
 
 -- the rows of another id stay
 pub others_after_put : (other id : List ℕ) (values : Row) (old new : List Row) → other ≢ id

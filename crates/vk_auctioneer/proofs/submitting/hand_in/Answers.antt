@@ -6,8 +6,7 @@ use Rattle.vk_auctioneer.proofs.submitting.hand_in.Goals as goal
 
 pub returns : goal.returns
 returns g c =
-    let row = c.args.row in
-    asks_alone g.K.Keeper.get_gives (Submit c.args.id.now row.seal row.secret) Position
+    asks_alone g.K.Keeper.get_gives (Submit c.args.id.now c.args.seal c.args.secret) Position
     c.submit-answer.result c.handed_in-said.result (search rules)
-    (c.handed_in-said.ensures.said c.args.id.now row.seal row.secret refl)
+    (c.handed_in-said.ensures.said c.args.id.now c.args.seal c.args.secret refl)
     (c.handed_in-said.ensures.causes _ _)

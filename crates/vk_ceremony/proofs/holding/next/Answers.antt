@@ -25,7 +25,7 @@ pub returns-in_err-status-in-Some-clause-turn : goal.returns-in_err-status-in-So
 returns-in_err-status-in-Some-clause-turn g c =
     let p = err_from_is_err_and c.from_residual-in_err-status-in-Some.result
     c.from_residual-in_err-status-in-Some.ensures.1 in
-    rw p.1 (order_turn _ _ _ c.args.refused _ _ _ _ _ (Err p.0) _ _
+    rw p.1 (order_turn _ c.args.refused _ _ _ _ _ _ _ (Err p.0) _ _
     c.in_ok-words.ensures.shelf.held (c.in_ok-words.ensures.file.name ∙ c.requires)
     (words_found _ _ _ _ _ c.in-Some.ensures.value c.as_slice.ensures.value)
     (line_told _ _ _ _ _ (Words c.in-Words.words) c.in-Words.is c.in_ok-words.ensures.modelled)

@@ -8,12 +8,12 @@ returns-then-eq c = λ script rest behind taken count. end_says script rest c.ar
 
 pub returns-in-Some : goal.returns-in-Some
 returns-in-Some c = λ script rest behind taken count.
-    words_say script rest c.args.text.now c.as_slice.result.now behind
-    (map string_bytes c.in-Some.words.items) taken c.as_slice.ensures c.if-eq.ensures
+    words_say script rest c.args.text.now c.as_slice.result.now behind taken c.as_slice.ensures
+    (map string_bytes c.in-Some.words.items) c.if-eq.ensures
     (rw c.in-Some.is at c.in_ok-words.ensures)
 
 pub returns-in-None : goal.returns-in-None
 returns-in-None c = λ script rest behind taken count.
-    no_words_say script rest c.args.text.now c.as_slice.result.now behind c.args.number taken
-    c.as_slice.ensures c.if-eq.ensures
+    no_words_say script rest c.args.text.now c.as_slice.result.now behind taken c.as_slice.ensures
+    c.args.number c.if-eq.ensures
     (rw c.in-None.is at c.in_ok-words.ensures) count
