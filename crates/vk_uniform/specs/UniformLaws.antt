@@ -17,7 +17,7 @@ use Rattle.vk_range.specs.Ranges.{ranges_values}
 use Rattle.vk_range.specs.Ranged.{IsRanged, MayBeFilled, AreRanged, ranged_plan, ranged_values}
 use Rattle.vk_range.specs.RangedLaws.{ranged_is_plan, ranged_sound, ranged_of_width, ranged_begins, ranged_wires, ranged_rows}
 use Rattle.vk_range.specs.Selected.{IsSelection, IsSelected, place_row, selected_wires, selected_rows, selected_values}
-use Rattle.vk_range.specs.SelectedLaws.{length_kinds, selected_sound, selected_complete}
+use Rattle.vk_range.specs.SelectedLaws.{length_selected, selected_sound, selected_complete}
 use Rattle.vk_range.specs.SetLaws.{length_listed}
 use Rattle.vk_range.specs.Rooms.{selected_room}
 use Rattle.vk_range.specs.Differences.{width_small, reaches_means, equal_fits, below_fits}
@@ -586,7 +586,7 @@ module _ (inputs : ℕ) (numbers : List ℕ) where
             ∙ omega (arith, wires, forms, sets, nothing, none.1))
         | inr some ↦
             (let long = length-map (losers_of inputs numbers) (copy_at inputs) in
-            let selection = length_kinds relation (length relation.wires) in
+            let selection = length_selected relation in
             let each = ap (λ count. count * width) long in
             ap (λ (p : PlanValue). length p.kinds) (plan_many inputs numbers some.1)
             ∙ length-append plan.kinds (selected_wires relation)

@@ -13,7 +13,8 @@ use Rattle.vk_range.specs.Selected.{place_number, serves, first_place, selector,
 use Rattle.vk_range.specs.SelectedLaws.{serves_all, selected_from, first_place_found}
 use Rattle.vk_vickrey.specs.VickreyPlans.{IsVickreyCase, IsVickreyClaim, price_selection, after_bids, after_wins, after_prices, honest_values}
 use Rattle.vk_range.specs.Differences.{reaches_means, equal_fits, below_fits, width_small}
-use Rattle.vk_vickrey.specs.VickreyLaws.{bid_of, within_price, before_selection, begins_prices, length_prices}
+use Rattle.vk_vickrey.specs.VickreyLaws.{before_selection, begins_prices}
+use Rattle.vk_vickrey.specs.VickreyRanges.{bid_of, within_price, length_prices}
 
 -- the first of the other places whose bid is the price
 pub record IsFirstHolder (bids : List ℕ) (winner price place : ℕ) : Type 0 where
