@@ -7,7 +7,7 @@ use Rattle.std.proofs.lemmas.List.{get_or_append_left, get_or-append-add, take_a
 use Rattle.std.proofs.lemmas.List.Elements.{All-nil, All-cons, All-head}
 use Rattle.std.proofs.lemmas.List.Sums.{sum_by-le, list_all-from_AllPass, AllPass-from_list_all, passes_at_first, fails_before_first, position_or_len_is}
 use Rattle.std.proofs.lemmas.List.FromFn.{length-range_with_len, get_or-range_with_len}
-use Rattle.std.proofs.lemmas.Bool.{cases_lt, false≢true, eq-eqb, ne_eqb, lt-ltb, ltb-true}
+use Rattle.std.proofs.lemmas.Bool.{cases_lt, false_from_ne_true, false≢true, eq-eqb, ne_eqb, lt-ltb, ltb-true}
 use Rattle.std.proofs.lemmas.Bool.Decides.{eqb_tells}
 use Rattle.std.proofs.Math.Pow.{pow_mono}
 use Rattle.vk_residue.specs.Residue.{modulus, IsResidue, sum, difference, negative}
@@ -439,7 +439,7 @@ serves_all relation values place h =
     subst (λ other. may_stand relation values place other ≡ true) (sym (at_range n k d inside))
     (h k inside))
 
-serves_from : (relation : SelectedIs) (values : List ℕ) (place : ℕ)
+pub serves_from : (relation : SelectedIs) (values : List ℕ) (place : ℕ)
     → IsSelected relation values place → serves relation values place ≡ true
 serves_from relation values place selected = serves_all relation values place (λ k inside.
     lt-ltb (place_number relation values k (k == place)) (2 ^ relation.width)
@@ -514,10 +514,6 @@ pub IsSelection-over : (relation : SelectedIs) (values : List ℕ)
     × (length plan.kinds ≡ length values))) → IsSelection relation (length values)
 IsSelection-over relation values fits = subst (IsSelection relation) fits.1.1 fits.1.0
 
-not_true : (b : Bool) → (b ≡ true → ⊥) → b ≡ false
-not_true true h = absurd (h refl)
-not_true false h = refl
-
 -- the early end of a search
 pub serves_not : (relation : SelectedIs) (values : List ℕ) (place other : ℕ)
     → other < length relation.wires
@@ -525,7 +521,7 @@ pub serves_not : (relation : SelectedIs) (values : List ℕ) (place other : ℕ)
 unfolding serves
 serves_not relation values place other h fails =
     let n = length relation.wires in
-    not_true (serves relation values place) (λ test.
+    false_from_ne_true (serves relation values place) (λ test.
     let all = AllPass-from_list_all (may_stand relation values place) (range_with_len 0 n) test in
     let passes = subst (λ o. may_stand relation values place o ≡ true) (at_range n other 0 h)
     (all other 0 (omega (arith, length-range_with_len 0 n))) in

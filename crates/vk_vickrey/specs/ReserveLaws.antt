@@ -15,7 +15,7 @@ use Rattle.vk_range.specs.Others.{other}
 use Rattle.vk_range.specs.Copies.{begins_alone}
 use Rattle.vk_range.specs.Ranges.{AreOfWidth}
 use Rattle.vk_range.specs.Ranged.{IsRanged, MayBeFilled, AreRanged, ranged_plan, ranged_values}
-use Rattle.vk_range.specs.Differences.{width_small, within_means, within_fits}
+use Rattle.vk_range.specs.Differences.{width_small, limit_shown, limit_within}
 use Rattle.vk_range.specs.RangedLaws.{ranged_is_plan, ranged_sound, ranged_of_width, ranged_begins, ranged_wires, ranged_rows, All-front, All-back, listed_each}
 use Rattle.vk_vickrey.specs.declared.reserve.ReservePlan.{ReservePlan}
 use Rattle.vk_vickrey.specs.declared.sales.Sale.{Sale}
@@ -25,7 +25,7 @@ use Rattle.vk_vickrey.specs.OutcomeLaws.{outcome_exists, outcome_of_sold}
 use Rattle.vk_vickrey.specs.SaleLaws.{sold_at_price}
 use Rattle.vk_vickrey.specs.VickreyPlans.{IsVickreyCase, IsVickreyClaim, bid_form, vickrey_forms, vickrey_plan, honest_values, wire_count, row_count}
 use Rattle.vk_vickrey.specs.VickreyLaws.{win_shown, vickrey_sound, vickrey_complete}
-use Rattle.vk_vickrey.specs.VickreyRanges.{All-vickrey_forms, forms_over, forms_shown, copy_small, bid_names, length_forms, less_value, position_of, bid_at_place, bid_of, bids_fit, wins_fit, within_price, price_value}
+use Rattle.vk_vickrey.specs.VickreyRanges.{All-vickrey_forms, forms_over, forms_shown, copy_small, bid_names, length_forms, position_of, bid_at_place, bid_of, bids_fit, wins_fit, within_price}
 use Rattle.vk_vickrey.specs.VickreySteps.{vickrey_is_plan, honest_begins, vickrey_wires, vickrey_rows}
 use Rattle.vk_vickrey.specs.ReservePlans.{IsReserveCase, IsBoardClaim, IsWithinReserve, below_form, reach_form, sale_forms, sale_ranges, reserve_plan, reserve_values, sale_wire_count, sale_row_count}
 
@@ -262,10 +262,8 @@ within_sound seals width reserve Unsold values case low ranged =
           let inside : j < seals = omega (arith, at.some, at.within) in
           let form = listed_each Fits (below_form seals (reserve - 1)) seals
           (All-back Fits bids below ranged.of_width) j inside in
-          let within = within_means (slice_index values (seals + j)) (reserve - 1) (2 ^ width)
-          (copies j inside) (omega (arith, case.reserve_within_width))
-          (width_small width case.wide.most)
-          (subst (IsOfWidth width) (less_value (reserve - 1) (seals + j) values) form) in
+          let within = limit_shown width case.wide.most values (reserve - 1) (seals + j)
+          (omega (arith, case.reserve_within_width)) (copies j inside) form in
           omega (arith, within, bid j inside, case.sale_case);
     }
 
@@ -361,15 +359,14 @@ sale_fits seals width reserve (Sold position price) bids case low claim =
     (All-vickrey_forms Fits seals winner reserve
     (bids_fit seals width position found.0 bids values case' claim' begins)
     (wins_fit seals width position found.0 bids values case' claim' begins)
-    (λ k h. subst (IsOfWidth width) (sym (price_value seals winner reserve k values))
-    (within_fits (slice_index values (seals + other winner k)) reserve (2 ^ width)
-    case.reserve_within_width small
+    (λ k h. limit_within width case.wide.most values reserve (seals + other winner k)
+    case.reserve_within_width
     (omega (
       arith,
       found.2,
       low,
       within_price seals width position found.0 bids values case' claim' begins k h,
-    )))))
+    ))))
     (All-cons Fits reach [] (subst (IsOfWidth width) (sym (reach_value seals winner reserve values))
     reached) (All-nil Fits))
 sale_fits seals width reserve Unsold bids case low claim =
@@ -383,15 +380,14 @@ sale_fits seals width reserve Unsold bids case low claim =
     (All-listed Fits (bid_form seals) seals
     (bids_fit seals width found.0 found.1 bids values case' claim' begins))
     (All-listed Fits (below_form seals (reserve - 1)) seals
-    (λ j h. subst (IsOfWidth width) (sym (less_value (reserve - 1) (seals + j) values))
-    (within_fits (slice_index values (seals + j)) (reserve - 1) (2 ^ width)
-    (omega (arith, case.reserve_within_width)) (width_small width case.wide.most)
+    (λ j h. limit_within width case.wide.most values (reserve - 1) (seals + j)
+    (omega (arith, case.reserve_within_width))
     (omega (
       arith,
       claim.is_sale (j + 1) (position_of bids j (omega (arith, claim.one_each))),
       bid_at_place bids j,
       bid_of seals width found.0 found.1 bids values case' claim' begins j h,
-    )))))
+    ))))
 
 pub sale_filled : (seals width reserve : ℕ) (sale : Sale) (bids : List ℕ)
     → IsReserveCase seals width reserve sale → IsWithinReserve reserve sale

@@ -5,7 +5,6 @@ use Rattle.std.proofs.lemmas.List.{append-nil, get_or_default, length-take-le, t
 use Rattle.std.proofs.lemmas.Bool.{cases_lt, cases_eq, lt-ltb, le-ltb}
 use Rattle.std.proofs.lemmas.Bool.Decides.{eqb_tells}
 use Rattle.vk_residue.specs.Limits.{IsWidth}
-use Rattle.vk_residue.specs.Residue.{modulus, difference}
 use Rattle.vk_plan.specs.declared.form.Form.{Form}
 use Rattle.vk_plan.specs.Plans.{Holds}
 use Rattle.vk_plan.specs.PlanLaws.{Holds-before}
@@ -13,7 +12,8 @@ use Rattle.vk_range.specs.Others.{other, other_within, other_not, other_of, othe
 use Rattle.vk_range.specs.Copies.{copies, copies_rows, length_copies, BeginsWith, begins_alone, begins_longer}
 use Rattle.vk_range.specs.Sets.{IsOfWidth}
 use Rattle.vk_range.specs.Forms.{less_one}
-use Rattle.vk_range.specs.Differences.{width_small, within_means, reaches_means}
+use Rattle.vk_range.specs.Differences.{order_shown, limit_shown}
+use Rattle.vk_range.specs.Holders.{value_at, selected_holds}
 use Rattle.vk_range.specs.SetLaws.{length_listed, at_listed, All-listed}
 use Rattle.vk_range.specs.Laws.{difference_value}
 use Rattle.vk_range.specs.Series.{same_plan, series_rows, series_values}
@@ -23,7 +23,7 @@ use Rattle.vk_range.specs.Selected.{IsSelection, IsSelected, selected_wires, sel
 use Rattle.vk_range.specs.SelectedLaws.{selected_sound, selected_complete}
 use Rattle.vk_vickrey.specs.Outcomes.{bid_at, IsPosition}
 use Rattle.vk_vickrey.specs.Sales.{IsFirstOfGreatest}
-use Rattle.vk_vickrey.specs.VickreyRanges.{with_bids, with_wins, with_prices, with_selection, length_bids, length_wins, length_prices, values_before, prices_ranged, values_ranged, prices_plan, prices_shown, forms_fit, price_value, HoldsBeforeSelection, may_be_selected}
+use Rattle.vk_vickrey.specs.VickreyRanges.{with_bids, with_wins, with_prices, with_selection, length_bids, length_wins, length_prices, values_before, prices_ranged, values_ranged, prices_plan, prices_shown, forms_fit, HoldsBeforeSelection, may_be_selected}
 use Rattle.vk_vickrey.specs.VickreyPlans.{IsVickreyCase, IsVickreyClaim, bid_form, win_form, price_form, price_selection, vickrey_forms, vickrey_plan, after_bids, after_wins, after_prices, after_selection, honest_values}
 
 -- the selection is of copies
@@ -115,15 +115,6 @@ plan_many seals width position price many =
     refl (ap (λ start. plan.rows ++ selected_rows relation start)
     (sym (length_prices seals width (position - 1) price)))
 
--- below 2 ^ 40, a difference in the range is a difference of whole numbers
-at_least_means : (a b bound : ℕ) → a < bound → b < bound → bound ≤ 1099511627776
-    → (a + (modulus - 1) * b + 0) % modulus < bound → b ≤ a
-at_least_means a b bound ha hb small h = omega arith
-
-above_means : (a b bound : ℕ) → a < bound → b < bound → bound ≤ 1099511627776
-    → (a + (modulus - 1) * b + (modulus - 1)) % modulus < bound → b < a
-above_means a b bound ha hb small h = omega arith
-
 -- so no other's bid is above the winner's or the price, nor as high as the winner's where it stands
 -- before
 not_above : (seals width winner price k : ℕ) (values : List ℕ) → width ≤ 40 → winner < seals
@@ -132,35 +123,16 @@ not_above : (seals width winner price k : ℕ) (values : List ℕ) → width ≤
     × (k < winner → slice_index values (seals + other winner k)
     < slice_index values (seals + winner))
 not_above seals width winner price k values most w h shown =
-    let small = width_small width most in
-    let a = shown.bids winner w in
-    let b = shown.bids (other winner k) (other_within seals winner k w h) in
-    let form = difference_value (seals + winner) (seals + other winner k) (nat_lt k winner) values
-    in
-    let wins = subst (IsOfWidth width) form (shown.wins k h) in
-    let winning = slice_index values (seals + winner) in
-    let losing = slice_index values (seals + other winner k) in
-    elim (cases_lt k winner) [
-      | inl q ↦
-          (let strict = subst (λ s. (winning + (modulus - 1) * losing + less_one s) % modulus
-          < 2 ^ width) (lt-ltb k winner q) wins in
-          let above = above_means winning losing (2 ^ width) a b small strict in
-          (omega arith, λ _. above))
-      | inr q ↦
-          (let loose = subst (λ s. (winning + (modulus - 1) * losing + less_one s) % modulus
-          < 2 ^ width) (le-ltb k winner q) wins in
-          let least = at_least_means winning losing (2 ^ width) a b small loose in
-          (least, λ before. omega arith))
-    ]
+    order_shown width most values (seals + winner) (seals + other winner k) k winner
+    (shown.bids winner w) (shown.bids (other winner k) (other_within seals winner k w h))
+    (shown.wins k h)
 
 not_above_price : (seals width winner price k : ℕ) (values : List ℕ) → width ≤ 40 → winner < seals
     → k < seals - 1 → price < 2 ^ width → HoldsBeforeSelection seals width winner price values
     → slice_index values (seals + other winner k) ≤ price
 not_above_price seals width winner price k values most w h below shown =
-    within_means (slice_index values (seals + other winner k)) price (2 ^ width)
-    (shown.bids (other winner k) (other_within seals winner k w h)) below
-    (width_small width most)
-    (subst (IsOfWidth width) (price_value seals winner price k values) (shown.prices k h))
+    limit_shown width most values price (seals + other winner k) below
+    (shown.bids (other winner k) (other_within seals winner k w h)) (shown.prices k h)
 
 -- a place of another holds the price
 record IsHeld (seals winner price : ℕ) (values : List ℕ) : Type 0 where
@@ -277,14 +249,19 @@ selection_held seals width winner price values place most w below shown selected
     let f : ℕ → ℕ = λ k. seals + other winner k in
     let inside : place < seals - 1 = omega (arith, selected.is_place, length_listed f (seals - 1))
     in
+    let relation = price_selection seals width winner price in
+    let wire : (k : ℕ) → k < seals - 1 → f k ≡ slice_index relation.wires k =
+    λ k h. sym (at_listed f (seals - 1) k 0 h) in
+    let low : (k : ℕ) → k < length relation.wires → value_at relation values k ≤ price =
+    λ k h.
+    let within : k < seals - 1 = omega (arith, length_listed f (seals - 1)) in
+    subst (λ at. slice_index values at ≤ price) (wire k within)
+    (not_above_price seals width winner price k values most w within below shown) in
     record {
       place = place;
       inside = inside;
-      holds = reaches_means (slice_index values (f place)) price (2 ^ width)
-          (not_above_price seals width winner price place values most w inside below shown) below
-          (width_small width most)
-          (subst (λ at. difference (slice_index values at) price < 2 ^ width)
-          (at_listed f (seals - 1) place 0 inside) selected.here);
+      holds = ap (slice_index values) (wire place inside)
+          ∙ selected_holds relation values most below low place selected;
     }
 
 pub vickrey_sound : (seals width position price : ℕ) (values : List ℕ)

@@ -4,17 +4,16 @@ use Rattle.std.specs.Prelude.{ℕ, ◌+◌, ◌-◌, ◌*◌, ◌%◌, ◌^◌, 
 use Rattle.std.proofs.Common.{sym, ap, subst, arith, inl, inr, length-append, ◌∙◌}
 use Rattle.std.proofs.lemmas.List.{append-nil}
 use Rattle.std.proofs.lemmas.List.Elements.{All-append}
-use Rattle.std.proofs.lemmas.Bool.{cases_lt, lt-ltb, le-ltb}
 use Rattle.vk_residue.specs.Limits.{IsWidth}
-use Rattle.vk_residue.specs.Residue.{modulus, IsResidue, sum, difference}
+use Rattle.vk_residue.specs.Residue.{IsResidue}
 use Rattle.vk_plan.specs.declared.form.Form.{Form}
-use Rattle.vk_plan.specs.Forms.{linear_part, form_value, NamesBelow}
+use Rattle.vk_plan.specs.Forms.{form_value, NamesBelow}
 use Rattle.vk_plan.specs.Plans.{PlanValue, IsPlan, Holds, extended}
 use Rattle.vk_range.specs.Copies.{copies, length_copies, BeginsWith, begins_alone}
 use Rattle.vk_range.specs.Others.{other, other_before, other_within, other_not, other_of}
-use Rattle.vk_range.specs.Forms.{less_one}
-use Rattle.vk_range.specs.Differences.{width_small, within_fits, equal_fits, below_fits}
-use Rattle.vk_range.specs.Laws.{difference_value, difference_names, one_name}
+use Rattle.vk_range.specs.Differences.{wire_value, wire_within, limit_within, order_within}
+use Rattle.vk_range.specs.Holders.{value_at, holder_selected}
+use Rattle.vk_range.specs.Laws.{difference_names, one_name}
 use Rattle.vk_range.specs.Sets.{listed, plus, minus, IsOfWidth}
 use Rattle.vk_range.specs.SetLaws.{length_listed, at_listed, All-listed}
 use Rattle.vk_range.specs.Selected.{IsSelected, selected_wires, selected_rows}
@@ -76,23 +75,6 @@ price_names : (seals winner price k : ℕ) → winner < seals → k < seals - 1
 price_names seals winner price k w h =
     one_name (seals + seals) (minus (seals + other winner k))
     (omega (arith, other_within seals winner k w h))
-
--- what the forms come to, in whole numbers
-pub bid_value : (seals j : ℕ) (values : List ℕ) → slice_index values (seals + j) < modulus
-    → form_value (bid_form seals j) values ≡ slice_index values (seals + j)
-unfolding form_value linear_part
-bid_value seals j values small = omega arith
-
-pub less_value : (limit wire : ℕ) (values : List ℕ)
-    → form_value (record { terms = minus wire ∷ []; constant = limit }) values
-    ≡ ((modulus - 1) * slice_index values wire + limit) % modulus
-unfolding form_value linear_part
-less_value limit wire values = omega arith
-
-pub price_value : (seals winner price k : ℕ) (values : List ℕ)
-    → form_value (price_form seals winner price k) values
-    ≡ ((modulus - 1) * slice_index values (seals + other winner k) + price) % modulus
-price_value seals winner price k values = less_value price (seals + other winner k) values
 
 -- the bids, their copies, and the values of all these
 abbrev pub values_before : ℕ → ℕ → ℕ → ℕ → List ℕ → List ℕ
@@ -188,7 +170,7 @@ pub copy_small : (seals width : ℕ) (values : List ℕ) → seals + seals ≤ l
     → (j : ℕ) → j < seals → IsOfWidth width (form_value (bid_form seals j) values)
     → slice_index values (seals + j) < 2 ^ width
 copy_small seals width values enough residues j h = subst (IsOfWidth width)
-    (bid_value seals j values (residues (seals + j) 0 (omega arith)))
+    (wire_value (seals + j) values (residues (seals + j) 0 (omega arith)))
 
 pub forms_shown : (seals width winner price : ℕ) (values : List ℕ)
     → seals + seals ≤ length values → All IsResidue values
@@ -210,14 +192,6 @@ forms_shown seals width winner price values enough residues copied all =
           (All-back Fits (bids ++ wins) prices all);
     }
 
-at_least_fits : (a b bound : ℕ) → a < bound → bound ≤ 1099511627776 → b ≤ a
-    → (a + (modulus - 1) * b + 0) % modulus < bound
-at_least_fits a b bound ha small h = omega arith
-
-above_fits : (a b bound : ℕ) → a < bound → bound ≤ 1099511627776 → b < a
-    → (a + (modulus - 1) * b + (modulus - 1)) % modulus < bound
-above_fits a b bound ha small h = omega arith
-
 -- a place below the number of seals is a position, one higher
 pub position_of : (bids : List ℕ) (place : ℕ) → place < length bids → IsPosition bids (place + 1)
 position_of bids place h = record { some = omega arith; within = omega arith }
@@ -237,9 +211,8 @@ module _ (seals width position price : ℕ) (bids values : List ℕ) (case : IsV
 
   pub bids_fit : (j : ℕ) → j < seals → IsOfWidth width (form_value (bid_form seals j) values)
   bids_fit j h =
-      let small = subst (λ b. b < 2 ^ width) (sym (bid_of j h)) (bid_small j h) in
-      subst (IsOfWidth width) (sym
-      (bid_value seals j values (omega (arith, width_small width case.wide.most)))) small
+      wire_within width case.wide.most values (seals + j)
+      (subst (λ b. b < 2 ^ width) (sym (bid_of j h)) (bid_small j h))
 
   pub wins_fit : (k : ℕ) → k < seals - 1
       → IsOfWidth width (form_value (win_form seals (position - 1) k) values)
@@ -250,7 +223,6 @@ module _ (seals width position price : ℕ) (bids values : List ℕ) (case : IsV
       let inside = other_within seals winner k w h in
       let winning = slice_index values (seals + winner) in
       let losing = slice_index values (seals + place) in
-      let small = width_small width case.wide.most in
       let top = subst (λ b. b < 2 ^ width) (sym (bid_of winner w)) (bid_small winner w) in
       let at = position_of bids place (omega (arith, claim.one_each)) in
       let above : losing ≤ winning =
@@ -261,25 +233,15 @@ module _ (seals width position price : ℕ) (bids values : List ℕ) (case : IsV
         bid_of place inside,
         bid_of winner w,
       ) in
-      let form = difference_value (seals + winner) (seals + place) (nat_lt k winner) values in
-      subst (IsOfWidth width) (sym form) (elim (cases_lt k winner) [
-        | inl q ↦
-            (let strictly : losing
-            < winning = omega (
-              arith,
-              claim.outcome.first_of_the_greatest (place + 1) at
-                  (omega (arith, other_before winner k q)),
-              bid_at_place bids place,
-              bid_of place inside,
-              bid_of winner w,
-            ) in
-            subst (λ s. (winning + (modulus - 1) * losing + less_one s) % modulus < 2 ^ width)
-            (sym (lt-ltb k winner q))
-            (above_fits winning losing (2 ^ width) top small strictly))
-        | inr q ↦
-            subst (λ s. (winning + (modulus - 1) * losing + less_one s) % modulus < 2 ^ width)
-            (sym (le-ltb k winner q)) (at_least_fits winning losing (2 ^ width) top small above)
-      ])
+      order_within width case.wide.most values (seals + winner) (seals + place) k winner top above
+      (λ before. omega (
+        arith,
+        claim.outcome.first_of_the_greatest (place + 1) at
+            (omega (arith, other_before winner k before)),
+        bid_at_place bids place,
+        bid_of place inside,
+        bid_of winner w,
+      ))
 
   pub within_price : (k : ℕ) → k < seals - 1
       → slice_index values (seals + other (position - 1) k) ≤ price
@@ -300,9 +262,17 @@ module _ (seals width position price : ℕ) (bids values : List ℕ) (case : IsV
   pub prices_fit : (k : ℕ) → k < seals - 1
       → IsOfWidth width (form_value (price_form seals (position - 1) price k) values)
   prices_fit k h =
-      subst (IsOfWidth width) (sym (price_value seals (position - 1) price k values))
-      (within_fits (slice_index values (seals + other (position - 1) k)) price (2 ^ width)
-      case.within_width (width_small width case.wide.most) (within_price k h))
+      limit_within width case.wide.most values price (seals + other (position - 1) k)
+      case.within_width (within_price k h)
+
+  -- the selection reads copies of the others' bids
+  pub listed_low : (k : ℕ) → k < length (price_selection seals width (position - 1) price).wires
+      → value_at (price_selection seals width (position - 1) price) values k ≤ price
+  listed_low k h =
+      let f : ℕ → ℕ = λ k. seals + other (position - 1) k in
+      let inside : k < seals - 1 = omega (arith, length_listed f (seals - 1)) in
+      subst (λ wire. slice_index values wire ≤ price) (sym (at_listed f (seals - 1) k 0 inside))
+      (within_price k inside)
 
   -- a place of another that holds the price may be selected
   pub may_be_selected : 2 ≤ seals
@@ -311,7 +281,6 @@ module _ (seals width position price : ℕ) (bids values : List ℕ) (case : IsV
       let winner = position - 1 in
       let w : winner < seals = omega (arith, case.some_position, case.within_seals) in
       let relation = price_selection seals width winner price in
-      let small = width_small width case.wide.most in
       let f : ℕ → ℕ = λ k. seals + other winner k in
       let long = length_listed f (seals - 1) in
       let held = claim.outcome.price_is_bid (omega (arith, claim.one_each)) in
@@ -323,19 +292,9 @@ module _ (seals width position price : ℕ) (bids values : List ℕ) (case : IsV
       ap (λ p. slice_index values (seals + p)) found.2 ∙ bid_of (held.holder - 1) inside
       ∙ held.bids_price in (
         found.0,
-        record {
-          is_place = omega (arith, found.1);
-          here = subst (λ at. difference (slice_index values at) price < 2 ^ width)
-              (sym (at_listed f (seals - 1) found.0 0 found.1))
-              (equal_fits (slice_index values (f found.0)) price (2 ^ width) holds case.within_width
-              small);
-          others = λ q h ne.
-              let listed_place : q < seals - 1 = omega arith in
-              subst (λ at. sum (slice_index values at) (difference (2 ^ width - 1) price)
-              < 2 ^ width) (sym (at_listed f (seals - 1) q 0 listed_place))
-              (below_fits (slice_index values (f q)) price (2 ^ width) (within_price q listed_place)
-              case.within_width small);
-        },
+        holder_selected relation values case.wide.most case.within_width listed_low found.0
+            (omega (arith, found.1, long))
+            (ap (slice_index values) (at_listed f (seals - 1) found.0 0 found.1) ∙ holds),
       )
 
 module _ (seals width position price : ℕ) (case : IsVickreyCase seals width position price) where
