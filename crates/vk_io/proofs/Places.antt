@@ -1,5 +1,5 @@
--- Entries as they lie one after another, such as the files of a shelf in memory: reads and writes at
--- a place are those of the map that they make.
+-- Entries as they lie one after another, such as the files of a shelf in memory: reads and writes
+-- at a place are those of the map that they make.
 use Rattle.std.proofs.Common.{◌≡◌, ◌≢◌, ℕ, map, zero, suc, ◌+◌, ◌<◌, ◌≤◌, Bool, cond, List, [], ◌∷◌, ◌++◌, length, get_or, set, drop, Some, None, sym, ap, ◌∙◌, arith}
 use Rattle.std.specs.Str.{bytes_eq}
 use Rattle.std.specs.FinMap.{get, insert, get-empty, from_entries, from_entries_push, get-from_entries}

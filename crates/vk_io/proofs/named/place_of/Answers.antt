@@ -23,15 +23,15 @@ own_name c d =
 pub returns-then-eq-clause-found : goal.returns-then-eq-clause-found
 unfolding files_in
 returns-then-eq-clause-found c = λ file same.
-    put_at entry_of c.args.files.now c.loop-i.i file c.args.name.now (omega arith) c.loop-i.invariant.others
-    (own_name (goal.at.returns-then-eq-clause-found c).Then-eq) same
+    put_at entry_of c.args.files.now c.loop-i.i file c.args.name.now (omega arith)
+    c.loop-i.invariant.others (own_name (goal.at.returns-then-eq-clause-found c).Then-eq) same
 
 pub returns-then-eq-clause-held : goal.returns-then-eq-clause-held
 unfolding files_in
 returns-then-eq-clause-held c = λ d.
     ap (λ o. unwrap_or o []) (c.loop-i.invariant.rest
-    ∙ get-next entry_of c.args.files.now c.loop-i.i c.index-files-i.result c.args.name.now true (omega arith)
-    c.index-files-i.is (sym c.if-eq.true ∙ c.eq.ensures
+    ∙ get-next entry_of c.args.files.now c.loop-i.i c.index-files-i.result c.args.name.now true
+    (omega arith) c.index-files-i.is (sym c.if-eq.true ∙ c.eq.ensures
     ∙ ap (bytes_eq c.args.name.now) c.as_str.ensures.value))
     ∙ ap (λ f. f.bytes.items) (get_or_read c.args.files.now c.loop-i.i _ (omega arith)
     c.index-files-i.is d)
