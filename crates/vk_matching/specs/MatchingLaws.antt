@@ -4,10 +4,9 @@ use Rattle.std.proofs.Common.{refl, sym, ap, ◌∙◌, subst, arith, inl, inr, 
 use Rattle.std.proofs.lemmas.Bool.{cases_lt}
 use Rattle.std.proofs.lemmas.List.{get_or_default, length-take-le, take-take, take-append-le}
 use Rattle.std.proofs.lemmas.List.Elements.{All-cons, All-append}
-use Rattle.vk_residue.specs.Residue.{modulus}
 use Rattle.vk_plan.specs.declared.wire.WireKind.TheVariants.{Pair}
 use Rattle.vk_plan.specs.declared.form.Form.{Form}
-use Rattle.vk_plan.specs.Forms.{linear_part, form_value, NamesBelow}
+use Rattle.vk_plan.specs.Forms.{form_value, NamesBelow}
 use Rattle.vk_plan.specs.Plans.{PlanValue, IsPlan, Holds, HasWeight, extended}
 use Rattle.vk_range.specs.Sets.{IsOfWidth, joined, test_set, plus}
 use Rattle.vk_range.specs.SetLaws.{length_listed, All-listed, test_set_weights}
@@ -20,7 +19,7 @@ use Rattle.vk_range.specs.RangedLaws.{ranged_is_plan, ranged_sound, ranged_of_wi
 use Rattle.vk_matching.specs.Stability.{IsPerson, IsStable, his_place, her_place, his_rank, her_rank, wife_of}
 use Rattle.vk_matching.specs.Couples.{husband_of, husband_is, husband_alone}
 use Rattle.vk_matching.specs.Eithers.{IsEither, IsEitherAtLeast, either_wires, either_rows, either_values}
-use Rattle.vk_matching.specs.EitherLaws.{either_sound, either_complete, either_is_at_least, either_longer, either_names, either_front, either_behind, values_within, small_power}
+use Rattle.vk_matching.specs.EitherLaws.{either_sound, either_complete, either_is_at_least, either_longer, either_names, either_front, either_behind, values_within}
 use Rattle.vk_matching.specs.Blocks.{AreBlocks, blocks, length_blocks, length_rows, blocks_room, blocks_sound, blocks_complete}
 use Rattle.vk_matching.specs.MatchingPlans.{IsMatchingCase, IsMatchingClaim, width_of, size_of, matching_of, copy_at, rank_form, rank_ranges, pair_either, pair_count, man_at, woman_at, either_at, matching_plan, matching_values, wire_count, row_count}
 use Rattle.vk_matching.specs.Pairs.{his_place_within, her_place_within, wife_is, is_man, is_woman, pair_of}

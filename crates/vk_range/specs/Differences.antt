@@ -34,8 +34,8 @@ pub below_fits : (b price bound : ℕ) → b ≤ price → price < bound → bou
     → sum b (difference (bound - 1) price) < bound
 below_fits b price bound le hp small = omega arith
 
--- the same of forms over wires of the width: of one wire, of a limit less a wire, and of a wire less
--- another, less 1 where the other's place is before the own
+-- the same of forms over wires of the width: of one wire, of a limit less a wire, and of a wire
+-- less another, less 1 where the other's place is before the own
 less_means : (a b bound : ℕ) (strict : Bool) → a < bound → b < bound → bound ≤ 1099511627776
     → (a + (modulus - 1) * b + less_one strict) % modulus < bound
     → (b ≤ a) × (strict ≡ true → b < a)

@@ -1,14 +1,10 @@
 -- The forms of the plan: how many there are, which wires they name, and what they come to in whole
 -- numbers.
-use Rattle.std.specs.Prelude.{ℕ, ◌+◌, ◌-◌, ◌*◌, ◌%◌, ◌^◌, ◌<◌, ◌≤◌, ◌≡◌, Bool, true, false, nat_lt, List, [], ◌∷◌, ◌++◌, All, Contains, flat_map, length, map, slice_index, slice_index_or}
-use Rattle.std.proofs.Common.{refl, sym, ◌∙◌, subst, arith, length-append, suc-mul}
+use Rattle.std.specs.Prelude.{ℕ, ◌+◌, ◌*◌, ◌<◌, ◌≡◌, List, [], ◌∷◌, ◌++◌, All, Contains, flat_map, length, map, slice_index, slice_index_or}
+use Rattle.std.proofs.Common.{◌∙◌, subst, arith, length-append, suc-mul}
 use Rattle.std.proofs.lemmas.List.{length-map, get_or-map}
 use Rattle.std.proofs.lemmas.List.Elements.{All-nil, All-cons, All-head, All-tail, All-append, All-map, All-contains, Contains-get_or}
-use Rattle.std.proofs.lemmas.Bool.{false≢true, lt-ltb, ltb-true}
-use Rattle.vk_residue.specs.Residue.{modulus, sum, difference}
 use Rattle.vk_plan.specs.declared.form.Form.{Form}
-use Rattle.vk_plan.specs.Forms.{linear_part, form_value}
-use Rattle.vk_range.specs.Sets.{IsOfWidth}
 use Rattle.vk_range.specs.SetLaws.{length_listed, All-listed}
 use Rattle.vk_range.specs.RangedLaws.{All-front, All-back, listed_each}
 use Rattle.vk_uniform.specs.UniformPlans.{price_of, winners_of, losers_of, copy_at, bid_form, win_form, price_form, bid_forms, win_forms, price_forms, uniform_forms}

@@ -1,11 +1,11 @@
 -- The plan of a sale of equal units shows its outcome, and every outcome can be shown.
-use Rattle.std.specs.Prelude.{ℕ, ◌+◌, ◌-◌, ◌*◌, ◌^◌, ◌<◌, ◌≤◌, ◌≡◌, ◌≢◌, Bool, if◌then◌else◌, nat_lt, List, [], ◌∷◌, ◌++◌, All, Contains, length, map, take, slice_index}
+use Rattle.std.specs.Prelude.{ℕ, ◌+◌, ◌-◌, ◌*◌, ◌<◌, ◌≤◌, ◌≡◌, ◌≢◌, Bool, if◌then◌else◌, nat_lt, List, [], ◌∷◌, ◌++◌, All, Contains, length, take, slice_index}
 use Rattle.std.proofs.Common.{refl, sym, ap, ◌∙◌, subst, arith, inl, inr, length-append, get_or-take, mul-le-mul_left, mul-le-mul_right}
 use Rattle.std.proofs.lemmas.List.{nil_from_length, length-map, get_or-map, get_or_default, length-take-le, length-drop, take-take, take-append-le}
 use Rattle.std.proofs.lemmas.List.Elements.{All-map, All-contains}
 use Rattle.std.proofs.lemmas.Bool.{cases_lt, eq-eqb, ne_eqb}
 use Rattle.std.proofs.lemmas.Bool.Decides.{eqb_tells}
-use Rattle.vk_residue.specs.Residue.{modulus, IsResidue, sum, difference}
+use Rattle.vk_residue.specs.Residue.{modulus}
 use Rattle.vk_plan.specs.declared.form.Form.{Form}
 use Rattle.vk_plan.specs.Forms.{form_value, NamesBelow}
 use Rattle.vk_plan.specs.Plans.{PlanValue, IsPlan, Holds}

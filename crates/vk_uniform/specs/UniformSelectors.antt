@@ -1,13 +1,8 @@
 -- Which selector is 1: that of the first loser who holds the price.
-use Rattle.std.specs.Prelude.{ℕ, ◌+◌, ◌-◌, ◌*◌, ◌^◌, ◌<◌, ◌≤◌, ◌≡◌, ◌≢◌, ◌==◌, true, false, if◌then◌else◌, nat_lt, List, ◌++◌, length, slice_index}
-use Rattle.std.proofs.Common.{sym, ap, ◌∙◌, subst, arith, inl, inr}
-use Rattle.std.proofs.lemmas.List.{length-map, get_or-map, get_or_append_left, get_or-append-add}
-use Rattle.std.proofs.lemmas.Bool.{false_from_ne_true, lt-ltb}
-use Rattle.std.proofs.lemmas.Bool.Decides.{eqb_tells}
-use Rattle.vk_residue.specs.Residue.{sum, difference}
+use Rattle.std.specs.Prelude.{ℕ, ◌+◌, ◌*◌, ◌<◌, ◌≡◌, ◌≢◌, ◌==◌, if◌then◌else◌, List, ◌++◌, length, slice_index}
+use Rattle.std.proofs.Common.{sym, ap, ◌∙◌, arith}
+use Rattle.std.proofs.lemmas.List.{length-map}
 use Rattle.vk_range.specs.Copies.{BeginsWith}
-use Rattle.vk_range.specs.Sets.{joined}
-use Rattle.vk_range.specs.SetLaws.{length_listed, at_listed}
 use Rattle.vk_range.specs.Ranged.{ranged_values}
 use Rattle.vk_range.specs.RangedLaws.{ranged_wires}
 use Rattle.vk_range.specs.Selected.{first_place, selector, selected_values}

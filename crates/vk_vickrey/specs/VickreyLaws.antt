@@ -1,8 +1,8 @@
 -- The plan of a second-price auction shows its outcome, and every outcome can be shown.
-use Rattle.std.specs.Prelude.{ℕ, ◌+◌, ◌-◌, ◌*◌, ◌%◌, ◌^◌, ◌<◌, ◌≤◌, ◌≡◌, ◌≢◌, ◌==◌, Bool, true, false, if◌then◌else◌, nat_lt, List, [], ◌++◌, All, length, take, slice_index}
+use Rattle.std.specs.Prelude.{ℕ, ◌+◌, ◌-◌, ◌*◌, ◌^◌, ◌<◌, ◌≤◌, ◌≡◌, ◌≢◌, ◌==◌, Bool, true, false, if◌then◌else◌, List, [], ◌++◌, All, length, take, slice_index}
 use Rattle.std.proofs.Common.{refl, sym, ap, ◌∙◌, subst, arith, inl, inr, get_or-take}
 use Rattle.std.proofs.lemmas.List.{append-nil, get_or_default, length-take-le, take-take}
-use Rattle.std.proofs.lemmas.Bool.{cases_lt, cases_eq, lt-ltb, le-ltb}
+use Rattle.std.proofs.lemmas.Bool.{cases_eq}
 use Rattle.std.proofs.lemmas.Bool.Decides.{eqb_tells}
 use Rattle.vk_residue.specs.Limits.{IsWidth}
 use Rattle.vk_plan.specs.declared.form.Form.{Form}
@@ -10,12 +10,9 @@ use Rattle.vk_plan.specs.Plans.{Holds}
 use Rattle.vk_plan.specs.PlanLaws.{Holds-before}
 use Rattle.vk_range.specs.Others.{other, other_within, other_not, other_of, other_index}
 use Rattle.vk_range.specs.Copies.{copies, copies_rows, length_copies, BeginsWith, begins_alone, begins_longer}
-use Rattle.vk_range.specs.Sets.{IsOfWidth}
-use Rattle.vk_range.specs.Forms.{less_one}
 use Rattle.vk_range.specs.Differences.{order_shown, limit_shown}
 use Rattle.vk_range.specs.Holders.{value_at, selected_holds}
 use Rattle.vk_range.specs.SetLaws.{length_listed, at_listed, All-listed}
-use Rattle.vk_range.specs.Laws.{difference_value}
 use Rattle.vk_range.specs.Series.{same_plan, series_rows, series_values}
 use Rattle.vk_range.specs.Ranged.{ranges_of, ranged_plan}
 use Rattle.vk_range.specs.RangedLaws.{ranged_of_width}

@@ -1,7 +1,7 @@
 -- The ranges of the plan before the selection: of the bids, of the wins and of the prices, as one
 -- list of forms.
-use Rattle.std.specs.Prelude.{ℕ, ◌+◌, ◌-◌, ◌*◌, ◌%◌, ◌^◌, ◌<◌, ◌≤◌, ◌≡◌, List, [], ◌∷◌, ◌++◌, All, length, nat_lt, slice_index}
-use Rattle.std.proofs.Common.{sym, ap, subst, arith, inl, inr, length-append, ◌∙◌}
+use Rattle.std.specs.Prelude.{ℕ, ◌+◌, ◌-◌, ◌*◌, ◌^◌, ◌<◌, ◌≤◌, ◌≡◌, List, [], ◌++◌, All, length, nat_lt, slice_index}
+use Rattle.std.proofs.Common.{sym, ap, subst, arith, length-append, ◌∙◌}
 use Rattle.std.proofs.lemmas.List.{append-nil}
 use Rattle.std.proofs.lemmas.List.Elements.{All-append}
 use Rattle.vk_residue.specs.Limits.{IsWidth}
@@ -131,7 +131,8 @@ module _ (seals winner : ℕ) (w : winner < seals) where
       → AreRanges (ranges_of (vickrey_forms seals winner price) width) (seals + seals)
   forms_over width price wide = record {
     names = All-vickrey_forms (λ form. NamesBelow (seals + seals) form.terms) seals winner price
-        (bid_names seals) (λ k. win_names seals winner k w) (λ k. price_names seals winner price k w);
+        (bid_names seals) (λ k. win_names seals winner k w)
+        (λ k. price_names seals winner price k w);
     wide = wide;
   }
 

@@ -1,13 +1,9 @@
 -- Which selector is 1: that of the first of the others who holds the price.
-use Rattle.std.specs.Prelude.{ℕ, ◌+◌, ◌-◌, ◌*◌, ◌^◌, ◌<◌, ◌≤◌, ◌≡◌, ◌≢◌, ◌==◌, Bool, true, false, if◌then◌else◌, nat_lt, List, ◌++◌, length, slice_index}
-use Rattle.std.proofs.Common.{refl, sym, ap, ◌∙◌, subst, arith, inl, inr}
-use Rattle.std.proofs.lemmas.List.{get_or_append_left, get_or-append-add}
-use Rattle.std.proofs.lemmas.Bool.{ne_eqb, lt-ltb}
-use Rattle.std.proofs.lemmas.Bool.Decides.{eqb_tells}
-use Rattle.vk_residue.specs.Residue.{sum, difference}
+use Rattle.std.specs.Prelude.{ℕ, ◌+◌, ◌-◌, ◌*◌, ◌<◌, ◌≡◌, ◌≢◌, ◌==◌, if◌then◌else◌, List, ◌++◌, length, slice_index}
+use Rattle.std.proofs.Common.{sym, ap, ◌∙◌, arith}
+use Rattle.std.proofs.lemmas.Bool.{ne_eqb}
 use Rattle.vk_range.specs.Others.{other, other_within}
 use Rattle.vk_range.specs.Copies.{BeginsWith}
-use Rattle.vk_range.specs.Sets.{joined}
 use Rattle.vk_range.specs.SetLaws.{length_listed, at_listed}
 use Rattle.vk_range.specs.Selected.{first_place, selector, selected_values}
 use Rattle.vk_range.specs.Holders.{value_at, first_holder, selector_behind}

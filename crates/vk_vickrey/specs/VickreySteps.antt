@@ -213,7 +213,8 @@ vickrey_rows seals width position price some =
     let start = length plan.kinds in
     let long = length_listed (λ k. seals + other winner k) (seals - 1) in
     let before = rows_before seals width winner price in
-    let counted : (b : Bool) → (seals == 1) ≡ b → (if b then 2 else 5 * seals - 2) ≡ row_count seals =
+    let counted : (b : Bool) → (seals == 1) ≡ b
+    → (if b then 2 else 5 * seals - 2) ≡ row_count seals =
     λ b is. sym (ap (λ b. if b then 2 else 5 * seals - 2) is) in
     elim (eqb_tells seals 1) [
       | inl one ↦ ap (λ p. length p.rows) (plan_alone seals width position price one.0)
