@@ -1,9 +1,8 @@
 -- The fault line of a file: what is read line by line meets the fault that the form's table gives.
-use Rattle.std.proofs.Common.{◌≡◌, ℕ, zero, suc, ◌+◌, ◌<◌, ◌≤◌, ◌==◌, ◌&&◌, nat_lt, Bool, true, false, if◌then◌else◌, List, [], ◌∷◌, ◌++◌, length, take, drop, codes, Option, Some, None, Result, Ok, Err, option_map, ◌⊎◌, refl, ap, sym, ◌∙◌, arith, inl, inr}
-use Rattle.std.proofs.lemmas.Bool.{eqb-true}
+use Rattle.std.proofs.Common.{◌≡◌, ℕ, zero, suc, ◌+◌, ◌==◌, ◌&&◌, nat_lt, Bool, true, false, if◌then◌else◌, List, [], ◌∷◌, ◌++◌, length, take, drop, codes, Option, Some, None, Result, Ok, Err, option_map, ◌⊎◌, refl, ap, sym, ◌∙◌, arith, inl, inr}
+use Rattle.std.proofs.lemmas.Bool.{lt-ltb, le-ltb}
 use Rattle.std.specs.Result.{result_err}
-use Rattle.std.proofs.lemmas.Bool.Decides.{nat_tests}
-use Rattle.std.proofs.lemmas.List.{length-take-le, nil_from_length}
+use Rattle.std.proofs.lemmas.List.{length-take-le}
 use Rattle.vk_residue.specs.Steps.{◌>>=◌}
 use Rattle.vk_lines.specs.declared.errors.ReadErr.{ReadErr}
 use Rattle.vk_lines.specs.declared.errors.ReadErr.TheVariants.{Malformed, Failed, NoMemory}
@@ -12,7 +11,7 @@ use Rattle.vk_lines.specs.declared.step.Step.TheVariants.{Text, End, Long, Cut}
 use Rattle.vk_lines.specs.Lines.{Rest, feed_at, step_of, text_at, text_by, line_by, value_at, none_left, end_at, GivesReading}
 use Rattle.vk_lines.specs.Forms.{Table, Follows, FindsFaults, fault_after, fault_at, fault_from, fault_line, many_onto, whole, IsWhole, FaultsAllButTexts, Answers}
 use Rattle.vk_lines.specs.Tokens.{word_of}
-use Rattle.vk_lines.proofs.Parts.{bind_ok, ok_same}
+use Rattle.vk_lines.proofs.Parts.{bind_ok, ok_same, value_shown, none_shown}
 use Rattle.vk_lines.proofs.Pieces.{other_pieces, pieces, pieces_feed, text_tells}
 use Rattle.vk_lines.proofs.Words.{split_some}
 
@@ -30,12 +29,6 @@ from_long : {Place : Type 0} (table : Table Place) (place : Place) (taken : ℕ)
     → fault_from table place taken (text ∷ piece ∷ more) ≡ Some (taken + 1)
 from_long table place taken text piece more long = rw long refl
 
-small_is : (n : ℕ) → n < 256 → nat_lt n 256 ≡ true
-small_is n small = grind (arith, nat_tests)
-
-long_is : (n : ℕ) → 256 ≤ n → nat_lt n 256 ≡ false
-long_is n long = grind (arith, nat_tests)
-
 -- a line that stands next: the fault is after it, or it may not stand there
 text_fault : {Place : Type 0} (table : Table Place) (place : Place) (rest : Rest)
     → step_of rest.left ≡ Text
@@ -52,7 +45,7 @@ text_fault table place rest text =
     let some = split_some 10 left in
     let short : length line ≡ feed_at rest.left =
     length-take-le (feed_at rest.left) rest.left (omega arith) in
-    let small : nat_lt (length line) 256 ≡ true = small_is (length line) (omega arith) in
+    let small : nat_lt (length line) 256 ≡ true = lt-ltb (length line) 256 (omega arith) in
     ap (fault_from table place rest.taken)
     (pieces_feed rest.left near.1 ∙ ap (λ ps. line ∷ ps) some.2)
     ∙ from_text table place rest.taken line some.0 some.1 small
@@ -72,7 +65,7 @@ unfolding fault_at
 other_fault table place rest other open_ =
     other_pieces (fault_from table place rest.taken) (Some (rest.taken + 1)) rest.left other
     (λ line piece more long. from_long table place rest.taken line piece more
-    (long_is (length line) long)) (from_last table place rest.taken rest.left open_)
+    (le-ltb (length line) 256 long)) (from_last table place rest.taken rest.left open_)
 
 over_last : {Place : Type 0} (table : Table Place) (place : Place) (taken : ℕ)
     → table.over place ≡ true → fault_from table place taken ([] ∷ []) ≡ None
@@ -111,19 +104,20 @@ not_text left step is other text = other (sym is ∙ text)
 err_same : {X : Type 0} (m n : ℕ) → ◌≡◌ {A = Result X ℕ} (Err m) (Err n) → m ≡ n
 err_same m n same = cc
 
-fault_other : {Place : Type 0} (table : Table Place) (place : Place) (step : Step) (rest : Rest)
-    (number : ℕ) → step_of rest.left ≡ step → text_by step rest ≡ Err number
+-- where no line was taken, none stood next
+text_err : (step : Step) (rest : Rest) (number : ℕ) → text_by step rest ≡ Err number
+    → (step ≡ Text → ⊥) × (rest.taken + 1 ≡ number)
+text_err Text rest number stop = cc
+text_err End rest number stop = (λ e. cc, err_same (rest.taken + 1) number stop)
+text_err Long rest number stop = (λ e. cc, err_same (rest.taken + 1) number stop)
+text_err Cut rest number stop = (λ e. cc, err_same (rest.taken + 1) number stop)
+
+fault_other : {Place : Type 0} (table : Table Place) (place : Place) (rest : Rest) (number : ℕ)
+    → text_by (step_of rest.left) rest ≡ Err number
     → (length rest.left == 0 && table.over place) ≡ false → fault_at table place rest ≡ Some number
-fault_other table place Text rest number is taken open_ = cc
-fault_other table place End rest number is taken open_ =
-    other_fault table place rest (not_text rest.left End is (λ e. cc)) open_
-    ∙ ap Some (err_same (rest.taken + 1) number taken)
-fault_other table place Long rest number is taken open_ =
-    other_fault table place rest (not_text rest.left Long is (λ e. cc)) open_
-    ∙ ap Some (err_same (rest.taken + 1) number taken)
-fault_other table place Cut rest number is taken open_ =
-    other_fault table place rest (not_text rest.left Cut is (λ e. cc)) open_
-    ∙ ap Some (err_same (rest.taken + 1) number taken)
+fault_other table place rest number stop open_ =
+    let other = text_err (step_of rest.left) rest number stop in
+    other_fault table place rest other.0 open_ ∙ ap Some other.1
 
 -- ---- readings that follow a table
 
@@ -131,12 +125,6 @@ bind_err : {A B : Type 0} (r : Result A ℕ) (f : A → Result B ℕ) (number : 
     → (r >>= f) ≡ Err number → (r ≡ Err number) ⊎ ((x : A) × (r ≡ Ok x) × (f x ≡ Err number))
 bind_err (Ok x) f number h = inr (x, refl, h)
 bind_err (Err line) f number h = inl (ap Err (err_same line number h))
-
-value_ok : {X : Type 0} (o : Option X) (rest : Rest) (x : X) (more : Rest)
-    → value_at o rest ≡ Ok (x, more) → (o ≡ Some x) × (rest ≡ more)
-value_ok (Some y) rest x more some = let same = ok_same (y, rest) (x, more) some in
-    (ap (λ p. Some p.0) same, ap (λ p. p.1) same)
-value_ok None rest x more some = cc
 
 value_err : {X : Type 0} (o : Option X) (rest : Rest) (number : ℕ) → value_at o rest ≡ Err number
     → (o ≡ None) × (rest.taken ≡ number)
@@ -157,7 +145,7 @@ unfolding line_by text_at
 line_follows table place parse after next inside = record {
   ok = λ rest x more some.
       let line = bind_ok (text_at rest) (λ l. value_at (parse l.0) l.1) (x, more) some in
-      let value = value_ok (parse line.0.0) line.0.1 x more line.2 in
+      let value = value_shown (parse line.0.0) line.0.1 x more line.2 in
       let there : table.next place line.0.0 ≡ Some (after x) =
       next line.0.0 ∙ ap (option_map after) value.0 in
       fault_text table place (step_of rest.left) rest line.0.0 line.0.1 refl line.1
@@ -165,7 +153,7 @@ line_follows table place parse after next inside = record {
       ∙ ap (fault_at table (after x)) value.1;
   err = λ rest number none.
       elim (bind_err (text_at rest) (λ l. value_at (parse l.0) l.1) number none) [
-        | inl stop ↦ fault_other table place (step_of rest.left) rest number refl stop
+        | inl stop ↦ fault_other table place rest number stop
             (inside_is (length rest.left == 0) (table.over place) inside)
         | inr line ↦
             let value = value_err (parse line.0.0) line.0.1 number line.2 in
@@ -250,12 +238,6 @@ many_follows table places read each (suc count) before =
     follows_then table (places (suc count) before) (each count before)
     (λ x. many_follows table places read each count (before ++ x ∷ []))
 
-ok_by : (test : Bool) (count : ℕ) (rest : Rest) (x : Unit) (more : Rest) → (count == 0) ≡ test
-    → ◌≡◌ {A = Result (Unit × Rest) ℕ} (if test then Ok (tt, rest) else Err (rest.taken + 1))
-    (Ok (x, more)) → count ≡ 0
-ok_by true count rest x more is some = eqb-true count 0 is
-ok_by false count rest x more is some = cc
-
 err_by : (test : Bool) (rest : Rest) (number : ℕ)
     → ◌≡◌ {A = Result (Unit × Rest) ℕ} (if test then Ok (tt, rest) else Err (rest.taken + 1))
     (Err number) → (test ≡ false) × (rest.taken + 1 ≡ number)
@@ -289,10 +271,6 @@ over_by table over Cut rest number is more none =
     other_fault table over rest (not_text rest.left Cut is (λ e. cc))
     (outside_is (length rest.left == 0) (table.over over) more.0) ∙ ap Some more.1
 
-none_ok : (rest : Rest) (x : Unit) (more : Rest) → none_left rest ≡ Ok (x, more) → rest.left ≡ []
-none_ok rest x more some = nil_from_length rest.left
-    (ok_by (length rest.left == 0) (length rest.left) rest x more refl some)
-
 -- more after the end: the first line of it
 over_more : {Place : Type 0} (table : Table Place) (over : Place) (rest : Rest) (number : ℕ)
     → ((length rest.left == 0) ≡ false) × (rest.taken + 1 ≡ number)
@@ -315,7 +293,7 @@ end_ends table place over next inside none ended =
       ok = λ rest x more some.
           let last = bind_ok (line_by (word_of (codes "end")) rest) (λ p. none_left p.1) (x, more)
           some in
-          let empty = none_ok last.0.1 x more last.2 in
+          let empty = none_shown last.0.1 x more last.2 in
           line.ok rest last.0.0 last.0.1 last.1 ∙ over_fault table over last.0.1 empty ended;
       err = λ rest number stop.
           elim (bind_err (line_by (word_of (codes "end")) rest) (λ p. none_left p.1) number stop) [

@@ -1,10 +1,10 @@
 -- The first line feed of some bytes and of their front, and the next line of a reader.
-use Rattle.std.proofs.Common.{◌≡◌, ℕ, zero, suc, ◌+◌, ◌-◌, ◌<◌, ◌≤◌, ◌≢◌, ◌==◌, Bool, true, false, get_or, subst, List, [], ◌∷◌, length, take, drop, min, Option, Some, None, Ok, unwrap_or, refl, ap, sym, ◌∙◌, arith, inl, inr, take-take, option_map, ◌^◌, IsSome, ◌⊎◌, append_assoc, append-nil, length-append, ◌++◌}
+use Rattle.std.proofs.Common.{◌≡◌, ℕ, zero, suc, ◌+◌, ◌-◌, ◌<◌, ◌≤◌, ◌≢◌, ◌==◌, get_or, subst, List, [], ◌∷◌, length, take, drop, min, Option, Some, None, Ok, unwrap_or, refl, ap, sym, ◌∙◌, arith, inl, inr, take-take, option_map, ◌^◌, IsSome, ◌⊎◌, append_assoc, append-nil, length-append, ◌++◌}
 use Rattle.std.specs.FinMap.{get}
 use Rattle.std.specs.Option.{IfSome}
 use Rattle.memchr.specs.Find.{NoneBefore, Nowhere, Passes, is_byte}
 use Rattle.std.proofs.lemmas.Bool.Decides.{nat_tests}
-use Rattle.std.proofs.lemmas.Bool.{cases_lt}
+use Rattle.std.proofs.lemmas.Bool.{cases_lt, false_from_ne_true}
 use Rattle.std.proofs.lemmas.List.{take_all, drop_all, length-take, length-take-le, length-drop, drop-take, drop-drop, take-append-le, drop-append-le, take-append-drop}
 use Rattle.std.proofs.lemmas.List.Sums.{position_or_len_is}
 use Rattle.vk_io.specs.Files.{Files, bytes_of, part_of}
@@ -12,11 +12,7 @@ use Rattle.vk_lines.specs.declared.step.Step.{Step}
 use Rattle.vk_lines.specs.declared.step.Step.TheVariants.{Text, End, Long, Cut}
 use Rattle.vk_lines.specs.Buffers.{IsEnough, HasLooked, after_step, with_piece}
 use Rattle.vk_lines.specs.Lines.{LinesValue, Rest, IsNext, Starts, none_left, ended, is_end, answer_by, GivesReading, feed_at, line_taken, rest_in, rest_of, step_by, step_of, text_at, unread, unread_in, KeepsFile}
-
--- a test that is never passed fails
-pub not_passed : (test : Bool) → (test ≡ true → ⊥) → test ≡ false
-not_passed true never = absurd (never refl)
-not_passed false never = refl
+use Rattle.vk_lines.proofs.Pieces.{text_tells}
 
 -- where the first of all is found, or is not
 pub feed_found : (text : List ℕ) (feed : ℕ)
@@ -25,14 +21,14 @@ pub feed_found : (text : List ℕ) (feed : ℕ)
 feed_found text feed found =
     let bounds : (0 ≤ feed) × (feed < length text) = (found.0.low, found.0.high) in
     sym (position_or_len_is (λ byte. byte == 10) text feed 0 (omega arith)
-    (λ k less. not_passed (get_or text k 0 == 10) (found.0.before k (omega arith) less))
+    (λ k less. false_from_ne_true (get_or text k 0 == 10) (found.0.before k (omega arith) less))
     (λ within. found.1))
 
 pub feed_nowhere : (text : List ℕ) → Nowhere (Passes (is_byte 10) text) 0 (length text)
     → length text ≡ feed_at text
 feed_nowhere text nowhere =
     sym (position_or_len_is (λ byte. byte == 10) text (length text) 0 (omega arith)
-    (λ k less. not_passed (get_or text k 0 == 10) (nowhere k (omega arith) less))
+    (λ k less. false_from_ne_true (get_or text k 0 == 10) (nowhere k (omega arith) less))
     (λ past. absurd (omega arith)))
 
 -- in the front of some bytes it stands where it stood, or at the front's end
@@ -52,10 +48,6 @@ step_of-take left = rw (feed_at-take 256 left, length-take 256 left)
     (step_front (feed_at left) (length left))
 
 -- ---- the next line of a reader
-
--- where a line stands next, its line feed is among the first 256 bytes
-text_near : (feed count : ℕ) → step_by feed count ≡ Text → feed < 256
-text_near feed count text = grind (arith, nat_tests)
 
 -- what is left after so many bytes more
 pub rest_after : (count at size : ℕ) (bytes : List ℕ)
@@ -85,9 +77,6 @@ same_feed xs ys same near_x near_y =
     ∙ ap feed_at same ∙ feed_at-take 256 ys in
     omega arith
 
-text_within : (feed count : ℕ) → step_by feed count ≡ Text → feed < count
-text_within feed count text = grind (arith, nat_tests)
-
 -- the unread bytes stay the same when a line is taken from those ahead
 unread_after : (lines : LinesValue) (count : ℕ) → count ≤ length lines.ahead
     → lines.at + count + length (drop count lines.ahead) ≡ lines.at + length lines.ahead
@@ -102,10 +91,10 @@ unfolding text_at rest_of rest_in
 next_by files lines Text is near =
     let left : List ℕ = lines.ahead ++ unread_in lines (bytes_of files lines.name) in
     let step : step_of left ≡ Text = same_front left lines.ahead near ∙ is in
+    let tells = text_tells (feed_at lines.ahead) (length lines.ahead) is in
     let feed : feed_at left ≡ feed_at lines.ahead =
-    same_feed left lines.ahead near (text_near (feed_at left) (length left) step)
-    (text_near (feed_at lines.ahead) (length lines.ahead) is) in
-    let within = text_within (feed_at lines.ahead) (length lines.ahead) is in
+    same_feed left lines.ahead near (text_tells (feed_at left) (length left) step).0 tells.0 in
+    let within = tells.1 in
     let text : take (feed_at left) left ≡ take (feed_at lines.ahead) lines.ahead =
     rw feed (take-append-le (feed_at lines.ahead) lines.ahead
     (unread_in lines (bytes_of files lines.name)) (omega arith)) in

@@ -110,17 +110,18 @@ ok_of_some : (r : Result (List ℕ) FromHexError) (bytes : List ℕ) → result_
 ok_of_some (Ok xs) bytes h = cc
 ok_of_some (Err e) bytes h = cc
 
-some_where : (test : Bool) (o : Option (List ℕ)) (bytes : List ℕ)
-    → (if test then o else None) ≡ Some bytes → (test ≡ true) × (o ≡ Some bytes)
-some_where true o bytes h = (refl, h)
-some_where false o bytes h = cc
+-- what a test shows
+pub if_some : {A : Type 0} (test : Bool) (o : Option A) (y : A)
+    → (if test then o else None) ≡ Some y → (test ≡ true) × (o ≡ Some y)
+if_some true o y h = (refl, h)
+if_some false o y h = cc
 
 -- what is read as bytes is their text
 pub hex_of-some : (count : ℕ) (text bytes : List ℕ) → hex_of count text ≡ Some bytes
     → (length bytes ≡ count) × IsBytes bytes × (text ≡ hex_text bytes)
 unfolding hex_of
 hex_of-some count text bytes h =
-    let found = some_where (list_all is_lower_digit text) (result_ok (decode_sized text count))
+    let found = if_some (list_all is_lower_digit text) (result_ok (decode_sized text count))
     bytes h in
     let sized = ok_of_some (decode_sized text count) bytes found.1 in
     let long = decode_sized-ok text count bytes sized in

@@ -12,6 +12,7 @@ use Rattle.vk_lines.specs.declared.step.Step.TheVariants.{Text, End, Long, Cut}
 use Rattle.vk_lines.specs.Lines.{Rest, feed_at, step_of, step_by, text_at, text_by, line_by, value_at, none_left, end_at}
 use Rattle.vk_lines.specs.Forms.{IsLine, IsPart, IsWhole, is_plain, EachAfter, line, many_onto, many_at}
 use Rattle.vk_lines.specs.Tokens.{word_of}
+use Rattle.vk_lines.proofs.Pieces.{text_tells}
 use Rattle.vk_lines.proofs.Words.{fixed_line}
 
 -- what a reading shows where the readings together gave a value
@@ -27,7 +28,7 @@ value_found : {X : Type 0} (o : Option X) (x : X) (rest : Rest) → o ≡ Some x
     → value_at o rest ≡ Ok (x, rest)
 value_found o x rest some = rw some refl
 
-value_shown : {X : Type 0} (o : Option X) (rest : Rest) (x : X) (after : Rest)
+pub value_shown : {X : Type 0} (o : Option X) (rest : Rest) (x : X) (after : Rest)
     → value_at o rest ≡ Ok (x, after) → (o ≡ Some x) × (rest ≡ after)
 value_shown (Some y) rest x after some =
     let same = ok_same (y, rest) (x, after) some in (ap (λ p. Some p.0) same, ap (λ p. p.1) same)
@@ -76,14 +77,11 @@ cut_at_feed left within =
     (drop_more left (feed_at left) 0 within
     ∙ ap (λ b. b ∷ drop (feed_at left + 1) left) (feed_is left within))
 
-step_text : (feed count : ℕ) → step_by feed count ≡ Text → feed < count
-step_text feed count is = grind (arith, nat_tests)
-
 shown_by : (step : Step) (rest : Rest) (text : List ℕ) (after : Rest) → step_of rest.left ≡ step
     → text_by step rest ≡ Ok (text, after) → rest.left ≡ text ++ 10 ∷ after.left
 shown_by Text rest text after step is =
     let same = ok_same _ _ is in
-    let cut = cut_at_feed rest.left (step_text (feed_at rest.left) (length rest.left) step) in
+    let cut = cut_at_feed rest.left (text_tells (feed_at rest.left) (length rest.left) step).1 in
     rw (ap (λ p. p.0) same, ap (λ p. p.1.left) same) at cut
 shown_by End rest text after step is = cc
 shown_by Long rest text after step is = cc
@@ -123,9 +121,14 @@ none_found rest none = rw none refl
 
 none_by : (test : Bool) (rest after : Rest) (x : Unit)
     → ◌≡◌ {A = Result (Unit × Rest) ℕ} (if test then Ok (tt, rest) else Err (rest.taken + 1))
-    (Ok (x, after)) → (test ≡ true) × (rest ≡ after)
-none_by true rest after x some = (refl, ap (λ p. p.1) (ok_same (tt, rest) (x, after) some))
+    (Ok (x, after)) → test ≡ true
+none_by true rest after x some = refl
 none_by false rest after x some = cc
+
+pub none_shown : (rest : Rest) (x : Unit) (after : Rest) → none_left rest ≡ Ok (x, after)
+    → rest.left ≡ []
+none_shown rest x after some = nil_from_length rest.left
+    (eqb-true (length rest.left) 0 (none_by (length rest.left == 0) rest after x some))
 
 end_line : IsPart {X = Unit} (λ _. Unit {0}) (λ _. line (codes "end"))
     (line_by (word_of (codes "end")))
@@ -147,9 +150,7 @@ unfolding end_at
 end_shown rest x after some =
     let last = bind_ok (line_by (word_of (codes "end")) rest) (λ p. none_left p.1) (x, after) some
     in
-    let none = none_by (length last.0.1.left == 0) last.0.1 after x last.2 in
-    let empty : last.0.1.left ≡ [] =
-    nil_from_length last.0.1.left (eqb-true (length last.0.1.left) 0 none.0) in
+    let empty = none_shown last.0.1 x after last.2 in
     let is = end_line.shown rest last.0.0 last.0.1 last.1 in
     is.1 ∙ ap (λ more. line (codes "end") ++ more) empty ∙ append-nil (line (codes "end"))
 

@@ -1,8 +1,8 @@
 -- Words, and lines of words between single spaces.
-use Rattle.std.proofs.Common.{nat_le, get_or, ◌≡◌, if◌then◌else◌, ℕ, ◌+◌, ◌-◌, ◌*◌, ◌^◌, ◌<◌, ◌≤◌, ◌==◌, nat_lt, Bool, true, false, List, [], ◌∷◌, ◌++◌, length, take, drop, decimal, Option, Some, None, refl, ap, sym, ◌∙◌, arith, length-append, inl, inr}
+use Rattle.std.proofs.Common.{nat_le, get_or, ◌≡◌, ℕ, ◌+◌, ◌-◌, ◌*◌, ◌^◌, ◌<◌, ◌≤◌, ◌==◌, nat_lt, Bool, true, false, List, [], ◌∷◌, ◌++◌, length, take, drop, decimal, Option, Some, None, refl, ap, sym, ◌∙◌, arith, length-append, inl, inr}
 use Rattle.std.specs.List.{list_all, join_with_byte, position, position_or_len, slice_split}
 use Rattle.std.specs.Str.{bytes_eq, all_ascii_digits}
-use Rattle.std.proofs.lemmas.Bool.{and_parts, cases_Bool, le-leb, leb-true, ltb-true}
+use Rattle.std.proofs.lemmas.Bool.{and_parts, cases_Bool, false_from_ne_true, le-leb, leb-true, ltb-true}
 use Rattle.std.proofs.lemmas.Bool.Decides.{nat_tests}
 use Rattle.std.proofs.lemmas.Fmt.{digits_decimal, length-decimal-le}
 use Rattle.std.proofs.lemmas.List.Folds.{list_all-append}
@@ -16,8 +16,7 @@ use Rattle.vk_residue.specs.Steps.{◌>>?◌}
 use Rattle.vk_lines.specs.Tokens.{number_line, id_line, digests_line, HasDigests, decimal_of, fields_of, hex_of, hex_text, is_lower_digit, meets, behind_word, one_of, two_of, three_of, four_of, one_by, one_field, two_by, two_fields, three_by, three_fields, four_by, four_fields, word_of}
 use Rattle.vk_lines.specs.Forms.{IsLine, IsToken, digests_text, is_plain, is_word, spaced}
 use Rattle.vk_lines.proofs.Decimals.{own, decimal_of-some, decimal_of-decimal}
-use Rattle.vk_lines.proofs.Feeds.{not_passed}
-use Rattle.vk_lines.proofs.Hexadecimal.{hex_text-lower, hex_of-some, hex_of-hex_text, length-hex_text}
+use Rattle.vk_lines.proofs.Hexadecimal.{if_some, hex_text-lower, hex_of-some, hex_of-hex_text, length-hex_text}
 
 -- ---- words
 
@@ -59,12 +58,12 @@ pub space_found : (text : List ℕ) (found : Option ℕ) → IsFirstByte (is_byt
 space_found text (Some at) first =
     let within : at < length text = first.0.high in
     let place = position_or_len_is (λ byte. byte == 32) text at 0 (omega arith)
-    (λ k less. not_passed (get_or text k 0 == 32) (first.0.before k (omega arith) less))
+    (λ k less. false_from_ne_true (get_or text k 0 == 32) (first.0.before k (omega arith) less))
     (λ inside. first.1) in
     grind (arith, nat_tests)
 space_found text None nowhere =
     let place = position_or_len_is (λ byte. byte == 32) text (length text) 0 (omega arith)
-    (λ k less. not_passed (get_or text k 0 == 32) (nowhere k (omega arith) less))
+    (λ k less. false_from_ne_true (get_or text k 0 == 32) (nowhere k (omega arith) less))
     (λ past. absurd (omega arith)) in
     grind (arith, nat_tests)
 
@@ -135,12 +134,6 @@ bind_some : {A B : Type 0} (o : Option A) (f : A → Option B) (y : B) → (o >>
     → (x : A) × (o ≡ Some x) × (f x ≡ Some y)
 bind_some (Some x) f y h = (x, refl, h)
 bind_some None f y h = cc
-
--- what a test shows
-if_some : {A : Type 0} (test : Bool) (o : Option A) (y : A) → (if test then o else None) ≡ Some y
-    → (test ≡ true) × (o ≡ Some y)
-if_some true o y h = (refl, h)
-if_some false o y h = cc
 
 some_same : {X : Type 0} (x y : X) → Some x ≡ Some y → x ≡ y
 some_same x y same = cc

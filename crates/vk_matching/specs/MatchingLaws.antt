@@ -4,13 +4,13 @@ use Rattle.std.proofs.Common.{refl, sym, ap, ◌∙◌, subst, arith, inl, inr, 
 use Rattle.std.proofs.lemmas.Bool.{cases_lt}
 use Rattle.std.proofs.lemmas.List.{get_or_default, length-take-le, take-take, take-append-le}
 use Rattle.std.proofs.lemmas.List.Elements.{All-cons, All-append}
-use Rattle.vk_residue.specs.Residue.{modulus}
 use Rattle.vk_plan.specs.declared.wire.WireKind.TheVariants.{Pair}
 use Rattle.vk_plan.specs.declared.form.Form.{Form}
-use Rattle.vk_plan.specs.Forms.{linear_part, form_value, NamesBelow}
+use Rattle.vk_plan.specs.Forms.{form_value, NamesBelow}
 use Rattle.vk_plan.specs.Plans.{PlanValue, IsPlan, Holds, HasWeight, extended}
 use Rattle.vk_range.specs.Sets.{IsOfWidth, joined, test_set, plus}
 use Rattle.vk_range.specs.SetLaws.{length_listed, All-listed, test_set_weights}
+use Rattle.vk_range.specs.Differences.{wire_value, wire_within}
 use Rattle.vk_range.specs.Laws.{one_name}
 use Rattle.vk_range.specs.Copies.{BeginsWith, begins_alone, begins_longer}
 use Rattle.vk_range.specs.Ranges.{ranges_values}
@@ -19,17 +19,10 @@ use Rattle.vk_range.specs.RangedLaws.{ranged_is_plan, ranged_sound, ranged_of_wi
 use Rattle.vk_matching.specs.Stability.{IsPerson, IsStable, his_place, her_place, his_rank, her_rank, wife_of}
 use Rattle.vk_matching.specs.Couples.{husband_of, husband_is, husband_alone}
 use Rattle.vk_matching.specs.Eithers.{IsEither, IsEitherAtLeast, either_wires, either_rows, either_values}
-use Rattle.vk_matching.specs.EitherLaws.{either_sound, either_complete, either_is_at_least, either_longer, either_names, either_front, either_behind, values_within, small_power}
+use Rattle.vk_matching.specs.EitherLaws.{either_sound, either_complete, either_is_at_least, either_longer, either_names, either_front, either_behind, values_within}
 use Rattle.vk_matching.specs.Blocks.{AreBlocks, blocks, length_blocks, length_rows, blocks_room, blocks_sound, blocks_complete}
 use Rattle.vk_matching.specs.MatchingPlans.{IsMatchingCase, IsMatchingClaim, width_of, size_of, matching_of, copy_at, rank_form, rank_ranges, pair_either, pair_count, man_at, woman_at, either_at, matching_plan, matching_values, wire_count, row_count}
 use Rattle.vk_matching.specs.Pairs.{his_place_within, her_place_within, wife_is, is_man, is_woman, pair_of}
-
--- the copy of a rank as a form
-rank_value : (inputs place : ℕ) (values : List ℕ)
-    → slice_index values (copy_at inputs place) < modulus
-    → form_value (rank_form inputs place) values ≡ slice_index values (copy_at inputs place)
-unfolding form_value linear_part
-rank_value inputs place values small = omega arith
 
 small_square : (a b : ℕ) → a ≤ 16 → b ≤ 16 → a * b ≤ 256
 small_square a b few small = omega (arith, mul-le-mul_right b few, mul-le-mul_left 16 small)
@@ -368,7 +361,7 @@ module _ (inputs : ℕ) (numbers : List ℕ) (case : IsMatchingCase inputs numbe
         read = λ place h. sym (get_or-take inputs front place 0 h ∙ ranged.copied place h);
         small = λ place h.
             subst (IsOfWidth width)
-            (rank_value inputs place front
+            (wire_value (copy_at inputs place) front
             (ranged.residues (copy_at inputs place) 0 (omega (arith, ranged.enough))))
             (listed_each (λ form. IsOfWidth width (form_value form front)) (rank_form inputs) inputs
             ranged.of_width place h);
@@ -412,10 +405,8 @@ module _ (inputs : ℕ) (numbers : List ℕ) (case : IsMatchingCase inputs numbe
           of_width =
               All-listed (λ form. IsOfWidth width (form_value form (ranks ++ ranks)))
               (rank_form inputs) inputs (λ place h.
-              let small = reads.small place h in
-              subst (IsOfWidth width)
-              (sym (rank_value inputs place (ranks ++ ranks)
-              (omega (arith, small, small_power width case.limits.most_width)))) small);
+              wire_within width (omega (arith, case.limits.most_width)) (ranks ++ ranks)
+              (copy_at inputs place) (reads.small place h));
         }
 
     pub ranged_begin : BeginsWith ranks (ranged_values ranks (rank_ranges inputs numbers))

@@ -4,6 +4,7 @@ pub mod SetLaws
 pub mod Laws
 pub mod Selected
 pub mod SelectedLaws
+pub mod Holders
 pub mod Rooms
 pub mod Series
 pub mod Ranges

@@ -1,7 +1,7 @@
 -- That a plan with a relation at its end is one: its own rows name wires that are there, and there
 -- is room.
 use Rattle.std.specs.Prelude.{◌+◌, ◌*◌, ◌≤◌, List, [], ◌∷◌, All, length}
-use Rattle.std.proofs.Common.{arith}
+use Rattle.std.proofs.Common.{sym, subst, arith, length-append}
 use Rattle.std.proofs.lemmas.List.Elements.{All-nil, All-cons}
 use Rattle.vk_plan.specs.declared.wire.WireKind.{WireKind}
 use Rattle.vk_plan.specs.declared.form.Form.{Form}
@@ -11,12 +11,11 @@ use Rattle.vk_plan.specs.Plans.{PlanValue, IsPlan, HasWeight, extended}
 use Rattle.vk_plan.specs.PlanLaws.{IsPlan-extended}
 use Rattle.vk_range.specs.declared.ranges.Ranges.{Ranges}
 use Rattle.vk_range.specs.declared.selected.SelectedIs.{SelectedIs}
-use Rattle.vk_range.specs.SetLaws.{length_listed}
 use Rattle.vk_range.specs.Series.{series_room}
 use Rattle.vk_range.specs.Ranges.{form_at, AreRanges, ranges_wires, ranges_rows}
 use Rattle.vk_range.specs.RangesLaws.{ranges_series}
-use Rattle.vk_range.specs.Selected.{IsSelection, place_row, selected_wires, selected_rows}
-use Rattle.vk_range.specs.SelectedLaws.{stage_room, length_kinds}
+use Rattle.vk_range.specs.Selected.{IsSelection, place_form, selector_row, selected_wires, selected_rows}
+use Rattle.vk_range.specs.SelectedLaws.{selecting, length_selecting, selecting_room, selecting_series, stage_is}
 
 -- one row over the wires with those that come with it
 row_room : (plan : PlanValue) (kinds : List WireKind) (row : Form) → IsPlan plan
@@ -53,6 +52,10 @@ pub selected_room : (plan : PlanValue) (relation : SelectedIs) → IsPlan plan
     → length plan.rows + 1 + length relation.wires ≤ 16777216
     → IsPlan (extended plan (selected_wires relation) (selected_rows relation (length plan.kinds)))
 selected_room plan relation is_plan fits wires rows =
-    stage_room relation plan (length relation.wires) is_plan fits (omega arith)
-    (omega (arith, length_kinds relation (length relation.wires)))
-    (omega (arith, length_listed (place_row relation (length plan.kinds)) (length relation.wires)))
+    let start = length plan.kinds in
+    let n = length relation.wires in
+    subst IsPlan (sym (stage_is relation plan))
+    (series_room (selecting relation plan) (place_form relation start) relation.width (start + n) n
+    (selecting_room relation plan is_plan (omega arith) (omega arith))
+    (selecting_series relation plan fits) (omega (arith, length_selecting relation plan))
+    (omega (arith, length-append plan.rows (selector_row relation start ∷ []))))

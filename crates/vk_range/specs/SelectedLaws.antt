@@ -2,29 +2,26 @@
 use Rattle.std.specs.Prelude.{ℕ, ◌+◌, ◌-◌, ◌*◌, ◌%◌, ◌^◌, ◌<◌, ◌≤◌, ◌≡◌, ◌≢◌, ◌⊎◌, ◌==◌, Bool, true, false, if◌then◌else◌, List, [], ◌∷◌, ◌++◌, All, length, take, slice_index, slice_index_or}
 use Rattle.std.specs.Prelude.{sum as total}
 use Rattle.std.specs.List.{range_with_len, position_or_len}
-use Rattle.std.proofs.Common.{refl, sym, ap, ◌∙◌, subst, arith, inl, inr, zero, suc, add-one, length-append, append_assoc, mul-le-mul_right, suc-mul, get_or-take, get_or-drop}
-use Rattle.std.proofs.lemmas.List.{get_or_append_left, append-nil, get_or-append-add, take_all, take_at, take-take}
-use Rattle.std.proofs.lemmas.List.Elements.{All-nil, All-cons, All-append, All-head}
+use Rattle.std.proofs.Common.{refl, sym, ap, ◌∙◌, subst, arith, inl, inr, zero, suc, add-one, length-append, append_assoc, get_or-take, get_or-drop}
+use Rattle.std.proofs.lemmas.List.{get_or_append_left, get_or-append-add, take_at, take-take}
+use Rattle.std.proofs.lemmas.List.Elements.{All-nil, All-cons, All-head}
 use Rattle.std.proofs.lemmas.List.Sums.{sum_by-le, list_all-from_AllPass, AllPass-from_list_all, passes_at_first, fails_before_first, position_or_len_is}
 use Rattle.std.proofs.lemmas.List.FromFn.{length-range_with_len, get_or-range_with_len}
-use Rattle.std.proofs.lemmas.Bool.{cases_lt, false≢true, eq-eqb, ne_eqb, lt-ltb, ltb-true}
+use Rattle.std.proofs.lemmas.Bool.{cases_lt, false_from_ne_true, false≢true, eq-eqb, ne_eqb, lt-ltb, ltb-true}
 use Rattle.std.proofs.lemmas.Bool.Decides.{eqb_tells}
 use Rattle.std.proofs.Math.Pow.{pow_mono}
 use Rattle.vk_residue.specs.Residue.{modulus, IsResidue, sum, difference, negative}
-use Rattle.vk_plan.specs.declared.wire.WireKind.{WireKind}
 use Rattle.vk_plan.specs.declared.wire.WireKind.TheVariants.{Split, Pair}
 use Rattle.vk_plan.specs.declared.form.Term.{Term}
 use Rattle.vk_plan.specs.declared.form.Form.{Form}
 use Rattle.vk_plan.specs.Forms.{linear_part, form_value, NamesBelow}
-use Rattle.vk_plan.specs.FormLaws.{form_value-take, NamesBelow-more}
 use Rattle.vk_plan.specs.Plans.{PlanValue, NamesOwnWires, IsPlan, Holds, HasWeight, extended, shortened}
-use Rattle.vk_plan.specs.PlanLaws.{Holds-extended, Holds-before, FitKinds-appended, AreZero-appended, names-extended, IsPlan-extended}
+use Rattle.vk_plan.specs.PlanLaws.{Holds-extended, FitKinds-appended, AreZero-appended, names-extended, IsPlan-extended}
 use Rattle.vk_range.specs.declared.selected.SelectedIs.{SelectedIs}
-use Rattle.vk_range.specs.Sets.{listed, joined, IsOfWidth, test_set, set_sum, set_row, bit_parts, plus}
-use Rattle.vk_range.specs.Forms.{IsRange}
-use Rattle.vk_range.specs.SetLaws.{sum_listed_more, linear_plus_set, set_sum-after, listed_more, joined_more, length_listed, length_joined, at_listed, All-listed, All-joined, set_row_names, test_set_weights}
-use Rattle.vk_range.specs.Laws.{in_range_sound, in_range_complete}
-use Rattle.vk_range.specs.Selected.{ones, IsSelection, place_form, place_number, selector_row, place_row, selected_wires, selected_rows, IsSelected, may_stand, serves, first_place, selector, selectors, place_parts, selected_values}
+use Rattle.vk_range.specs.Sets.{listed, joined, IsOfWidth, test_set, set_sum, bit_parts, plus}
+use Rattle.vk_range.specs.SetLaws.{sum_listed_more, linear_plus_set, set_sum-after, joined_more, joined-same, length_listed, length_joined, at_listed, All-listed}
+use Rattle.vk_range.specs.Series.{IsSeries, same_plan, series, series_kinds, series_rows, series_values, series_shorter, series_sound, series_complete}
+use Rattle.vk_range.specs.Selected.{ones, IsSelection, place_form, place_number, selector_row, selected_wires, selected_rows, IsSelected, may_stand, serves, first_place, selector, selectors, place_parts, selected_values}
 
 -- the form of a place at each value of its selector
 one_arith : (all wire less : ℕ) → all < modulus
@@ -77,113 +74,84 @@ place_names relation plan place fits inside =
     All-cons Named selector (plus (slice_index relation.wires place) ∷ []) (omega arith)
     (All-cons Named (plus (slice_index relation.wires place)) [] (omega arith) (All-nil Named))
 
--- the plan with the selectors and the sets of the first places
-abbrev pub stage_kinds : SelectedIs → ℕ → List WireKind
-stage_kinds relation count = listed (λ _. Pair 0) (length relation.wires)
-    ++ joined (λ _. test_set relation.width) count
+-- the plan with the selectors and their row
+abbrev pub selecting : SelectedIs → PlanValue → PlanValue
+selecting relation plan = extended plan (listed (λ _. Pair 0) (length relation.wires))
+    (selector_row relation (length plan.kinds) ∷ [])
 
-abbrev pub stage_rows : SelectedIs → ℕ → ℕ → List Form
-stage_rows relation start count =
-    selector_row relation start ∷ listed (place_row relation start) count
-
+-- and with the sets of the first places
 abbrev pub stage : SelectedIs → PlanValue → ℕ → PlanValue
-stage relation plan count = extended plan (stage_kinds relation count)
-    (stage_rows relation (length plan.kinds) count)
+stage relation plan count =
+    series (selecting relation plan) (place_form relation (length plan.kinds)) relation.width count
 
-pub length_kinds : (relation : SelectedIs) (count : ℕ)
-    → length (stage_kinds relation count) ≡ length relation.wires + count * relation.width
-length_kinds relation count =
+pub length_selecting : (relation : SelectedIs) (plan : PlanValue)
+    → length (selecting relation plan).kinds ≡ length plan.kinds + length relation.wires
+length_selecting relation plan =
+    length-append plan.kinds (listed (λ _. Pair 0) (length relation.wires))
+    ∙ ap (λ n. length plan.kinds + n) (length_listed (λ _. Pair 0) (length relation.wires))
+
+pub length_selected : (relation : SelectedIs)
+    → length (selected_wires relation)
+    ≡ length relation.wires + length relation.wires * relation.width
+length_selected relation =
     length-append (listed (λ _. Pair 0) (length relation.wires))
-    (joined (λ _. test_set relation.width) count)
+    (joined (λ _. test_set relation.width) (length relation.wires))
     ∙ omega (
       arith,
       length_listed (λ _. Pair 0) (length relation.wires),
-      length_joined (λ _. test_set relation.width) relation.width count
+      length_joined (λ _. test_set relation.width) relation.width (length relation.wires)
           (λ _. length_listed Pair relation.width),
     )
 
-pub length_stage : (relation : SelectedIs) (plan : PlanValue) (count : ℕ)
-    → length (stage relation plan count).kinds
-    ≡ length plan.kinds + length relation.wires + count * relation.width
-length_stage relation plan count = length-append plan.kinds (stage_kinds relation count)
-    ∙ omega (arith, length_kinds relation count)
-
-same_plan : (inputs : ℕ) (kinds kinds' : List WireKind) (rows rows' : List Form) → kinds ≡ kinds'
-    → rows ≡ rows'
-    → ◌≡◌ {A = PlanValue} (record { inputs = inputs; kinds = kinds; rows = rows })
-    (record { inputs = inputs; kinds = kinds'; rows = rows' })
-same_plan inputs kinds kinds' rows rows' k r = cc
-
-pub stage_more : (relation : SelectedIs) (plan : PlanValue) (count : ℕ)
-    → stage relation plan (count + 1)
-    ≡ extended (stage relation plan count) (test_set relation.width)
-    (set_row (place_form relation (length plan.kinds) count)
-    (length (stage relation plan count).kinds) relation.width ∷ [])
-stage_more relation plan count =
-    let start = length plan.kinds in
-    let width = relation.width in
-    let row = place_row relation start count in
-    let pairs = listed (λ _. Pair 0) (length relation.wires) in
-    let sets = joined (λ _. test_set width) count in
-    let where' = ap (λ at. set_row (place_form relation start count) at width)
-    (length_stage relation plan count) in
-    same_plan plan.inputs (plan.kinds ++ stage_kinds relation (count + 1))
-    (plan.kinds ++ stage_kinds relation count ++ test_set width)
-    (plan.rows ++ stage_rows relation start (count + 1))
-    (plan.rows ++ stage_rows relation start count
-    ++ set_row (place_form relation start count) (length (stage relation plan count).kinds)
-    width ∷ [])
-    (ap (λ more. plan.kinds ++ (pairs ++ more)) (joined_more (λ _. test_set width) count)
-    ∙ cc (
-      append_assoc pairs sets (test_set width),
-      append_assoc plan.kinds (pairs ++ sets) (test_set width),
-    ))
-    (ap (λ more. plan.rows ++ (selector_row relation start ∷ more))
-    (listed_more (place_row relation start) count)
-    ∙ cc (append_assoc plan.rows (stage_rows relation start count) (row ∷ []), where'))
-
--- the row of a place names wires of the plan with its set
-row_names : (relation : SelectedIs) (plan : PlanValue) (place count : ℕ)
-    → IsSelection relation (length plan.kinds) → count ≤ length relation.wires → place < count
-    → NamesBelow (length plan.kinds + length (stage_kinds relation count))
-    (place_row relation (length plan.kinds) place).terms
-row_names relation plan place count fits few inside =
+-- with the sets of all places it is the plan with the whole selection
+pub stage_is : (relation : SelectedIs) (plan : PlanValue)
+    → extended plan (selected_wires relation) (selected_rows relation (length plan.kinds))
+    ≡ stage relation plan (length relation.wires)
+stage_is relation plan =
     let start = length plan.kinds in
     let n = length relation.wires in
-    let width = relation.width in
-    let form = place_form relation start place in
-    let at = start + n + place * width in
-    let steps : suc place * width ≤ count * width = mul-le-mul_right width inside in
-    let form_names = NamesBelow-more (start + n) at form.terms (omega arith)
-    (place_names relation plan place fits (omega arith)) in
-    NamesBelow-more (at + width) (start + length (stage_kinds relation count))
-    (place_row relation start place).terms
-    (omega (arith, length_kinds relation count, suc-mul place width))
-    (set_row_names form at width form_names)
+    let pairs = listed (λ _. Pair 0) n in
+    let sets = series_kinds relation.width n in
+    let row = selector_row relation start in
+    let rows : ℕ → List Form = λ at. series_rows (place_form relation start) at relation.width n in
+    same_plan plan.inputs (plan.kinds ++ (pairs ++ sets)) (plan.kinds ++ pairs ++ sets)
+    (plan.rows ++ (row ∷ rows (start + n)))
+    (plan.rows ++ row ∷ [] ++ rows (length (selecting relation plan).kinds))
+    (sym (append_assoc plan.kinds pairs sets))
+    (sym (append_assoc plan.rows (row ∷ []) (rows (start + n)))
+    ∙ ap (λ at. (plan.rows ++ row ∷ []) ++ rows at) (sym (length_selecting relation plan)))
 
--- the appended rows name wires of the plan with them
-stage_names : (relation : SelectedIs) (plan : PlanValue) (count : ℕ)
-    → IsSelection relation (length plan.kinds) → count ≤ length relation.wires
-    → All (λ row. NamesBelow (length plan.kinds + length (stage_kinds relation count)) row.terms)
-    (stage_rows relation (length plan.kinds) count)
-stage_names relation plan count fits few =
+-- the row of the selectors names wires of the plan with them
+selecting_names : (relation : SelectedIs) (plan : PlanValue)
+    → All (λ row. NamesBelow (length plan.kinds
+    + length (listed (λ _. Pair 0) (length relation.wires))) row.terms)
+    (selector_row relation (length plan.kinds) ∷ [])
+selecting_names relation plan =
     let start = length plan.kinds in
     let n = length relation.wires in
-    let Named : Form → Type 0 =
-    λ row. NamesBelow (start + length (stage_kinds relation count)) row.terms in
-    All-cons Named (selector_row relation start) (listed (place_row relation start) count)
-    (All-listed (λ (term : Term). term.wire < start + length (stage_kinds relation count))
-    (λ place. plus (start + place)) n
-    (λ i h. omega (arith, length_kinds relation count)))
-    (All-listed Named (place_row relation start) count
-    (λ i h. row_names relation plan i count fits few h))
+    let wires = start + length (listed (λ _. Pair 0) n) in
+    let Named : Form → Type 0 = λ row. NamesBelow wires row.terms in
+    All-cons Named (selector_row relation start) []
+    (All-listed (λ (term : Term). term.wire < wires) (λ place. plus (start + place)) n
+    (λ i h. omega (arith, length_listed (λ _. Pair 0) n)))
+    (All-nil Named)
 
-names_stage : (relation : SelectedIs) (plan : PlanValue) (count : ℕ) → NamesOwnWires plan
-    → IsSelection relation (length plan.kinds) → count ≤ length relation.wires
-    → NamesOwnWires (stage relation plan count)
-names_stage relation plan count own fits few =
-    names-extended plan (stage_kinds relation count) (stage_rows relation (length plan.kinds) count)
-    own (stage_names relation plan count fits few)
+names_selecting : (relation : SelectedIs) (plan : PlanValue) → NamesOwnWires plan
+    → NamesOwnWires (selecting relation plan)
+names_selecting relation plan own =
+    names-extended plan (listed (λ _. Pair 0) (length relation.wires))
+    (selector_row relation (length plan.kinds) ∷ []) own (selecting_names relation plan)
+
+-- the sets of the places are a series over the wires of the plan and the selectors
+pub selecting_series : (relation : SelectedIs) (plan : PlanValue)
+    → IsSelection relation (length plan.kinds)
+    → IsSeries (selecting relation plan) (place_form relation (length plan.kinds)) relation.width
+    (length plan.kinds + length relation.wires) (length relation.wires)
+selecting_series relation plan fits = record {
+  names = λ place inside. place_names relation plan place fits inside;
+  base_within = omega (arith, length_selecting relation plan);
+  wide = fits.wide;
+}
 
 -- numbers that sum to 0 are 0
 none_of : (f : ℕ → ℕ) (n : ℕ) → total (listed f n) ≡ 0 → (i : ℕ) → i < n → f i ≡ 0
@@ -222,55 +190,6 @@ one_of f (suc n) h e =
       | inr last ↦ (n, omega arith, last, λ i l ne. none_of f n (omega arith) i (omega arith))
     ]
 
--- what holds for the plan of the first places: the forms of these places, and the selectors
-stage_sound : (relation : SelectedIs) (plan : PlanValue) (count : ℕ) (values : List ℕ)
-    → NamesOwnWires plan → IsSelection relation (length plan.kinds)
-    → count ≤ length relation.wires → Holds (stage relation plan count) values
-    → let front = take (length plan.kinds + length relation.wires) values in
-    Holds (stage relation plan 0) front
-    × ((place : ℕ) → place < count
-    → IsOfWidth relation.width (form_value (place_form relation (length plan.kinds) place) front))
-stage_sound relation plan zero values own fits few holds =
-    let base = length plan.kinds + length relation.wires in
-    let long = length_stage relation plan 0 in (
-      subst (Holds (stage relation plan 0))
-          (sym (take_all base values (omega (arith, holds.one_each)))) holds,
-      λ place h. omega arith,
-    )
-stage_sound relation plan (suc count) values own fits few holds =
-    let start = length plan.kinds in
-    let width = relation.width in
-    let base = start + length relation.wires in
-    let before_plan = stage relation plan count in
-    let m = length before_plan.kinds in
-    let long = length_stage relation plan count in
-    let form = place_form relation start count in
-    let row = set_row form m width in
-    let names = names_stage relation plan count own fits (omega arith) in
-    let holds' = subst (λ p. Holds p values)
-    (ap (stage relation plan) (sym (add-one count)) ∙ stage_more relation plan count) holds in
-    let before = Holds-before before_plan (test_set width) (row ∷ []) values names holds' in
-    let earlier = stage_sound relation plan count (take m values) own fits (omega arith) before in
-    let front = take-take base m values (omega arith) in
-    let own_form = place_names relation plan count fits (omega arith) in
-    let range : IsRange form width before_plan =
-    record { names = NamesBelow-more base m form.terms (omega arith) own_form; wide = fits.wide } in
-    let here = in_range_sound before_plan form width values range holds' in
-    let same = form_value-take form base (take m values) (omega (arith, before.one_each)) own_form
-    in
-    let here' : IsOfWidth width (form_value form (take base values)) =
-    subst (λ v. IsOfWidth width (form_value form v)) front (subst (IsOfWidth width) (sym same) here)
-    in (
-      subst (Holds (stage relation plan 0)) front earlier.0,
-      λ place h. elim (cases_lt place count) [
-        | inl q ↦ subst (λ v. IsOfWidth width (form_value (place_form relation start place) v))
-            front (earlier.1 place q)
-        | inr q ↦ (let this : place ≡ count = omega arith in
-            subst (λ p. IsOfWidth width
-            (form_value (place_form relation start p) (take base values))) (sym this) here')
-      ],
-    )
-
 -- the first row reads the sum of the selectors
 selector_row_is : (relation : SelectedIs) (start : ℕ) (values : List ℕ)
     → form_value (selector_row relation start) values
@@ -293,25 +212,21 @@ one_from_row : (total : ℕ) → total ≤ 63 → (total % modulus + (modulus - 
 one_from_row total small nothing = omega arith
 
 selectors_sound : (relation : SelectedIs) (plan : PlanValue) (values : List ℕ)
-    → IsSelection relation (length plan.kinds) → Holds (stage relation plan 0) values
+    → IsSelection relation (length plan.kinds) → Holds (selecting relation plan) values
     → (p : ℕ) × (p < length relation.wires) × (slice_index values (length plan.kinds + p) ≡ 1)
     × ((i : ℕ) → i < length relation.wires → i ≢ p → slice_index values (length plan.kinds + i) ≡ 0)
 selectors_sound relation plan values fits holds =
     let start = length plan.kinds in
     let n = length relation.wires in
     let pairs = listed (λ _. Pair 0) n in
+    let rows = selector_row relation start ∷ [] in
     let f : ℕ → ℕ = λ i. slice_index values (start + i) in
     let may : (i : ℕ) → i < n → (f i ≡ 0) ⊎ (f i ≡ 1) = λ i h.
-    let here = FitKinds-appended plan (stage_kinds relation 0) (stage_rows relation start 0) values
-    holds i (omega (arith, length_kinds relation 0)) in
-    rw (
-      get_or_append_left pairs [] Split i (omega (arith, length_listed (λ _. Pair 0) n)),
-      at_listed (λ _. Pair 0) n i Split h,
-      get_or-drop start values i 0,
-    ) at here in
+    let here = FitKinds-appended plan pairs rows values holds i
+    (omega (arith, length_listed (λ _. Pair 0) n)) in
+    rw (at_listed (λ _. Pair 0) n i Split h, get_or-drop start values i 0) at here in
     let row = All-head (λ form. form_value form values ≡ 0) (selector_row relation start) []
-    (AreZero-appended plan (stage_kinds relation 0) (stage_rows relation start 0) values holds)
-    in
+    (AreZero-appended plan pairs rows values holds) in
     let few : total (listed f n) ≤ 63 = omega (arith, few_sum f n may, fits.most) in
     one_of f n may (one_from_row (total (listed f n)) few
     (sym (selector_row_is relation start values) ∙ row))
@@ -337,9 +252,12 @@ selected_sound relation plan values own fits holds =
     let start = length plan.kinds in
     let n = length relation.wires in
     let width = relation.width in
-    let base = start + n in
+    let base = length (selecting relation plan).kinds in
+    let long = length_selecting relation plan in
     let front = take base values in
-    let whole = stage_sound relation plan n values own fits (omega arith) holds in
+    let whole = series_sound (selecting relation plan) (place_form relation start) width (start + n)
+    n values (names_selecting relation plan own) (selecting_series relation plan fits)
+    (subst (λ p. Holds p values) (stage_is relation plan) holds) in
     let one = selectors_sound relation plan front fits whole.0 in
     let number : (place : ℕ) (selected : Bool) → place < n
     → place_number relation front place selected
@@ -408,11 +326,11 @@ selectors_sum place (suc n) h =
     ]
 
 -- the selectors hold
-stage_start : (relation : SelectedIs) (plan : PlanValue) (values : List ℕ) (place : ℕ)
+selecting_holds : (relation : SelectedIs) (plan : PlanValue) (values : List ℕ) (place : ℕ)
     → NamesOwnWires plan → IsSelection relation (length plan.kinds)
     → Holds plan values → place < length relation.wires
-    → Holds (stage relation plan 0) (values ++ (selectors (length relation.wires) place ++ []))
-stage_start relation plan values place own fits holds inside =
+    → Holds (selecting relation plan) (values ++ selectors (length relation.wires) place)
+selecting_holds relation plan values place own fits holds inside =
     let start = length plan.kinds in
     let n = length relation.wires in
     let pairs = listed (λ _. Pair 0) n in
@@ -424,7 +342,6 @@ stage_start relation plan values place own fits holds inside =
     subst (λ at. set_sum whole at n ≡ 1) holds.one_each
     (set_sum-after values f n ∙ selectors_sum place n inside) in
     let nothing : form_value row whole ≡ 0 = selector_row_is relation start whole ∙ omega arith in
-    let done : Holds (extended plan pairs (row ∷ [])) whole =
     Holds-extended plan pairs (row ∷ []) values chosen own holds
     (length_listed f n ∙ sym (length_listed (λ _. Pair 0) n))
     (All-listed IsResidue f n (λ i h. elim (selector_is place i)
@@ -434,11 +351,7 @@ stage_start relation plan values place own fits holds inside =
     rw (at_listed (λ _. Pair 0) n w Split w_inside, at_listed f n w 0 w_inside)
     (selector_is place w))
     (All-cons (λ form. form_value form whole ≡ 0) row [] nothing
-    (All-nil (λ form. form_value form whole ≡ 0))) in
-    subst (λ k. Holds (extended plan k (row ∷ [])) (values ++ (chosen ++ [])))
-    (sym (append-nil pairs))
-    (subst (λ v. Holds (extended plan pairs (row ∷ [])) (values ++ v)) (sym (append-nil chosen))
-    done)
+    (All-nil (λ form. form_value form whole ≡ 0)))
 
 place_number-append : (relation : SelectedIs) (place : ℕ) (values more : List ℕ) (selected : Bool)
     → slice_index relation.wires place < length values
@@ -475,60 +388,40 @@ place_in_range relation values place other selected h =
           (sym e.0) (selected.others other h e.1)
     ]
 
-stage_complete : (relation : SelectedIs) (plan : PlanValue) (values : List ℕ) (place count : ℕ)
+-- the selection holds with the selector and the parts of a place that may be selected
+place_complete : (relation : SelectedIs) (plan : PlanValue) (values : List ℕ) (place : ℕ)
     → NamesOwnWires plan → IsSelection relation (length plan.kinds)
-    → Holds plan values → IsSelected relation values place → count ≤ length relation.wires
-    → Holds (stage relation plan count)
+    → Holds plan values → IsSelected relation values place
+    → Holds (extended plan (selected_wires relation) (selected_rows relation (length plan.kinds)))
     (values ++ (selectors (length relation.wires) place
-    ++ joined (place_parts relation values place) count))
-stage_complete relation plan values place zero own fits holds selected few =
-    stage_start relation plan values place own fits holds selected.is_place
-stage_complete relation plan values place (suc count) own fits holds selected few =
+    ++ joined (place_parts relation values place) (length relation.wires)))
+place_complete relation plan values place own fits holds selected =
     let start = length plan.kinds in
     let n = length relation.wires in
     let width = relation.width in
-    let f : ℕ → ℕ = selector place in
     let chosen = selectors n place in
-    let parts = joined (place_parts relation values place) count in
-    let before_plan = stage relation plan count in
-    let before_values = values ++ (chosen ++ parts) in
-    let form = place_form relation start count in
-    let number = place_number relation values count (count == place) in
-    let before = stage_complete relation plan values place count own fits holds selected
-    (omega arith) in
-    let inside : count < n = omega arith in
-    let named = fits.names count 0 inside in
-    let chooses : slice_index before_values (start + count) ≡ f count =
-    subst (λ at. slice_index before_values (at + count) ≡ f count) holds.one_each
-    (get_or-append-add values (chosen ++ parts) count 0
-    ∙ (get_or_append_left chosen parts 0 count (omega (arith, length_listed f n))
-    ∙ at_listed f n count 0 inside)) in
-    let value = place_value relation start count before_values (count == place) fits.wide.most
-    chooses
-    ∙ place_number-append relation count values (chosen ++ parts) (count == place)
-    (omega (arith, holds.one_each)) in
-    let names = names_stage relation plan count own fits (omega arith) in
-    let range : IsRange form width before_plan =
-    record {
-      names = NamesBelow-more (start + n) (length before_plan.kinds) form.terms
-          (omega (arith, length_stage relation plan count))
-          (place_names relation plan count fits inside);
-      wide = fits.wide;
-    } in
-    let below = subst (IsOfWidth width) (sym value)
-    (place_in_range relation values place count selected inside) in
-    let longer = in_range_complete before_plan form width before_values names range before below in
-    let longer' = subst (λ x. Holds
-    (extended before_plan (test_set width) (set_row form (length before_plan.kinds) width ∷ []))
-    (before_values ++ bit_parts x width)) value longer in
-    let joins : before_values ++ bit_parts number width
-    ≡ values ++ (chosen ++ (parts ++ bit_parts number width)) =
-    append_assoc values (chosen ++ parts) (bit_parts number width)
-    ∙ ap (λ more. values ++ more) (append_assoc chosen parts (bit_parts number width)) in
-    subst (λ p. Holds p (values ++ (chosen ++ (parts ++ bit_parts number width))))
-    (sym (stage_more relation plan count) ∙ ap (stage relation plan) (add-one count))
-    (subst (Holds (extended before_plan (test_set width)
-    (set_row form (length before_plan.kinds) width ∷ []))) joins longer')
+    let before = values ++ chosen in
+    let form = place_form relation start in
+    let parts = joined (place_parts relation values place) n in
+    let number : (i : ℕ) → i < n
+    → form_value (form i) before ≡ place_number relation values i (i == place) = λ i h.
+    let named = fits.names i 0 h in
+    let chooses : slice_index before (start + i) ≡ selector place i =
+    subst (λ at. slice_index before (at + i) ≡ selector place i) holds.one_each
+    (get_or-append-add values chosen i 0 ∙ at_listed (selector place) n i 0 h) in
+    place_value relation start i before (i == place) fits.wide.most chooses
+    ∙ place_number-append relation i values chosen (i == place) (omega (arith, holds.one_each)) in
+    let all = series_complete (selecting relation plan) form width (start + n) n before
+    (names_selecting relation plan own) (selecting_series relation plan fits)
+    (selecting_holds relation plan values place own fits holds selected.is_place)
+    (λ i h. subst (IsOfWidth width) (sym (number i h))
+    (place_in_range relation values place i selected h)) in
+    let same : series_values before form width n ≡ parts =
+    joined-same (λ i. bit_parts (form_value (form i) before) width)
+    (place_parts relation values place) n (λ i h. ap (λ x. bit_parts x width) (number i h)) in
+    subst (λ p. Holds p (values ++ (chosen ++ parts))) (sym (stage_is relation plan))
+    (subst (Holds (stage relation plan n))
+    (ap (λ more. before ++ more) same ∙ append_assoc values chosen parts) all)
 
 -- the test of a place says what it is to be selected
 at_range : (n k d : ℕ) → k < n → slice_index_or (range_with_len 0 n) k d ≡ k
@@ -546,7 +439,7 @@ serves_all relation values place h =
     subst (λ other. may_stand relation values place other ≡ true) (sym (at_range n k d inside))
     (h k inside))
 
-serves_from : (relation : SelectedIs) (values : List ℕ) (place : ℕ)
+pub serves_from : (relation : SelectedIs) (values : List ℕ) (place : ℕ)
     → IsSelected relation values place → serves relation values place ≡ true
 serves_from relation values place selected = serves_all relation values place (λ k inside.
     lt-ltb (place_number relation values k (k == place)) (2 ^ relation.width)
@@ -612,18 +505,14 @@ pub selected_complete : (relation : SelectedIs) (plan : PlanValue) (values : Lis
     → Holds (extended plan (selected_wires relation) (selected_rows relation (length plan.kinds)))
     (values ++ selected_values relation values)
 selected_complete relation plan values place own fits holds selected =
-    stage_complete relation plan values (first_place relation values) (length relation.wires) own
-    fits holds (first_is_selected relation values place selected) (omega arith)
+    place_complete relation plan values (first_place relation values) own fits holds
+    (first_is_selected relation values place selected)
 
 -- where it fits a plan of as many wires as there are values
 pub IsSelection-over : (relation : SelectedIs) (values : List ℕ)
     → ((plan : PlanValue) × (IsSelection relation (length plan.kinds)
     × (length plan.kinds ≡ length values))) → IsSelection relation (length values)
 IsSelection-over relation values fits = subst (IsSelection relation) fits.1.1 fits.1.0
-
-not_true : (b : Bool) → (b ≡ true → ⊥) → b ≡ false
-not_true true h = absurd (h refl)
-not_true false h = refl
 
 -- the early end of a search
 pub serves_not : (relation : SelectedIs) (values : List ℕ) (place other : ℕ)
@@ -632,7 +521,7 @@ pub serves_not : (relation : SelectedIs) (values : List ℕ) (place other : ℕ)
 unfolding serves
 serves_not relation values place other h fails =
     let n = length relation.wires in
-    not_true (serves relation values place) (λ test.
+    false_from_ne_true (serves relation values place) (λ test.
     let all = AllPass-from_list_all (may_stand relation values place) (range_with_len 0 n) test in
     let passes = subst (λ o. may_stand relation values place o ≡ true) (at_range n other 0 h)
     (all other 0 (omega (arith, length-range_with_len 0 n))) in
@@ -654,83 +543,62 @@ first_place_found relation values place few fails passes =
     subst (λ p. serves relation values p ≡ true) (sym (at_range n place 0 inside))
     (passes inside)))
 
--- each such plan is one, where there is room
-pub stage_room : (relation : SelectedIs) (plan : PlanValue) (count : ℕ) → IsPlan plan
-    → IsSelection relation (length plan.kinds) → count ≤ length relation.wires
-    → length plan.kinds + length (stage_kinds relation count) ≤ 16777216
-    → length plan.rows + length (stage_rows relation (length plan.kinds) count) ≤ 16777216
-    → IsPlan (stage relation plan count)
-stage_room relation plan count is_plan fits few wires rows =
-    let width = relation.width in
-    IsPlan-extended plan (stage_kinds relation count)
-    (stage_rows relation (length plan.kinds) count) is_plan
-    (All-append HasWeight (listed (λ _. Pair 0) (length relation.wires))
-    (joined (λ _. test_set width) count)
-    (All-listed HasWeight (λ _. Pair 0) (length relation.wires) (λ i h. omega arith))
-    (All-joined HasWeight (λ _. test_set width) count
-    (λ i h. test_set_weights width (omega (arith, fits.wide.most)))))
-    (stage_names relation plan count fits few) wires rows
+-- the plan with the selectors is one, where there is room
+pub selecting_room : (relation : SelectedIs) (plan : PlanValue) → IsPlan plan
+    → length plan.kinds + length relation.wires ≤ 16777216 → length plan.rows + 1 ≤ 16777216
+    → IsPlan (selecting relation plan)
+selecting_room relation plan is_plan wires rows =
+    let n = length relation.wires in
+    IsPlan-extended plan (listed (λ _. Pair 0) n) (selector_row relation (length plan.kinds) ∷ [])
+    is_plan (All-listed HasWeight (λ _. Pair 0) n (λ i h. omega arith))
+    (selecting_names relation plan) (omega (arith, length_listed (λ _. Pair 0) n)) (omega arith)
 
--- and where there is room for all
+-- and where there is room for the whole selection, as the plans after it are
+pub IsPlan-selecting : (relation : SelectedIs) (plan : PlanValue) → IsPlan plan
+    → IsPlan (extended plan (selected_wires relation) (selected_rows relation (length plan.kinds)))
+    → IsPlan (selecting relation plan)
+IsPlan-selecting relation plan is_plan whole =
+    selecting_room relation plan is_plan
+    (omega (
+      arith,
+      whole.wires,
+      length-append plan.kinds (selected_wires relation),
+      length_selected relation,
+    ))
+    (omega (
+      arith,
+      whole.few_rows,
+      length-append plan.rows (selected_rows relation (length plan.kinds)),
+    ))
+
 pub IsPlan-stage : (relation : SelectedIs) (plan : PlanValue) (count : ℕ) → IsPlan plan
     → IsSelection relation (length plan.kinds)
     → IsPlan (extended plan (selected_wires relation) (selected_rows relation (length plan.kinds)))
     → count ≤ length relation.wires
     → IsPlan (stage relation plan count)
 IsPlan-stage relation plan count is_plan fits whole few =
-    let start = length plan.kinds in
-    let n = length relation.wires in
-    let products = mul-le-mul_right relation.width few in
-    let all = length_stage relation plan n in
-    let all_rows = length-append plan.rows (selected_rows relation start) in
-    let here = length_kinds relation count in
-    stage_room relation plan count is_plan fits few
-    (omega (arith, whole.wires))
-    (omega (
-      arith,
-      whole.few_rows,
-      length_listed (place_row relation start) n,
-      length_listed (place_row relation start) count,
-    ))
+    series_shorter (selecting relation plan) (place_form relation (length plan.kinds))
+    relation.width (length plan.kinds + length relation.wires) count (length relation.wires)
+    (IsPlan-selecting relation plan is_plan whole) (selecting_series relation plan fits) few
+    (subst IsPlan (stage_is relation plan) whole)
 
--- what the code meets: room for the next place, the plan after it, and the plan cut back
-pub place_room : (relation : SelectedIs) (plan now : PlanValue) (count : ℕ) → IsPlan plan
-    → IsSelection relation (length plan.kinds)
-    → IsPlan (extended plan (selected_wires relation) (selected_rows relation (length plan.kinds)))
-    → count < length relation.wires
-    → now ≡ stage relation plan count
-    → IsPlan (extended now (test_set relation.width)
-    (set_row (place_form relation (length plan.kinds) count) (length now.kinds) relation.width
-    ∷ []))
-place_room relation plan now count is_plan fits whole few same =
-    subst (λ p. IsPlan (extended p (test_set relation.width)
-    (set_row (place_form relation (length plan.kinds) count) (length p.kinds) relation.width
-    ∷ []))) (sym same)
-    (subst IsPlan (stage_more relation plan count)
-    (IsPlan-stage relation plan (count + 1) is_plan fits whole (omega arith)))
-
-pub place_added : (relation : SelectedIs) (plan now next : PlanValue) (count : ℕ)
-    → now ≡ stage relation plan count
-    → next ≡ extended now (test_set relation.width)
-    (set_row (place_form relation (length plan.kinds) count) (length now.kinds) relation.width ∷ [])
-    → next ≡ stage relation plan (count + 1)
-place_added relation plan now next count same added =
-    added
-    ∙ ap (λ p. extended p (test_set relation.width)
-    (set_row (place_form relation (length plan.kinds) count) (length p.kinds) relation.width ∷ []))
-    same
-    ∙ sym (stage_more relation plan count)
+-- the plan cut back
+take_front : {A : Type 0} (xs ys zs : List A) → take (length xs) (xs ++ ys ++ zs) ≡ xs
+take_front xs ys zs = ap (take (length xs)) (append_assoc xs ys zs)
+    ∙ take_at xs (ys ++ zs) (length xs) refl
 
 pub stage_cut : (relation : SelectedIs) (plan now : PlanValue) (count : ℕ)
     → now ≡ stage relation plan count
     → shortened now (length plan.kinds) (length plan.rows) ≡ plan
 stage_cut relation plan now count same =
     ap (λ p. shortened p (length plan.kinds) (length plan.rows)) same
-    ∙ same_plan plan.inputs (take (length plan.kinds) (plan.kinds ++ stage_kinds relation count))
-    plan.kinds
-    (take (length plan.rows) (plan.rows ++ stage_rows relation (length plan.kinds) count)) plan.rows
-    (take_at plan.kinds (stage_kinds relation count) (length plan.kinds) refl)
-    (take_at plan.rows (stage_rows relation (length plan.kinds) count) (length plan.rows) refl)
+    ∙ same_plan plan.inputs (take (length plan.kinds) (stage relation plan count).kinds) plan.kinds
+    (take (length plan.rows) (stage relation plan count).rows) plan.rows
+    (take_front plan.kinds (listed (λ _. Pair 0) (length relation.wires))
+    (series_kinds relation.width count))
+    (take_front plan.rows (selector_row relation (length plan.kinds) ∷ [])
+    (series_rows (place_form relation (length plan.kinds))
+    (length (selecting relation plan).kinds) relation.width count))
 
 -- the parts of the next place, after the values so far
 pub place_pushed : (relation : SelectedIs) (values now next : List ℕ) (place count number : ℕ)

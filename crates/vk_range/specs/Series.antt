@@ -272,26 +272,3 @@ series_pushed values now next form width count names same pushed =
           (bit_parts (form_value (form count) values) width),
       joined_more (λ i. bit_parts (form_value (form i) values) width) count,
     )
-
--- the same where the values are the first of more
-pub series_sound_within : (plan : PlanValue) (form : ℕ → Form) (width base count : ℕ)
-    (values : List ℕ) → NamesOwnWires plan → IsSeries plan form width base count
-    → length (series plan form width count).kinds ≤ length values
-    → Holds (series plan form width count)
-    (take (length (series plan form width count).kinds) values)
-    → Holds plan (take (length plan.kinds) values)
-    × ((i : ℕ) → i < count → IsOfWidth width (form_value (form i) values))
-series_sound_within plan form width base count values own is_series enough holds =
-    let start = length plan.kinds in
-    let m = length (series plan form width count).kinds in
-    let long = length_series plan form width count in
-    let front = take-take start m values (omega arith) in
-    let found = series_sound plan form width base count (take m values) own is_series holds in (
-      subst (Holds plan) front found.0,
-      λ i h.
-          let names = NamesBelow-more base start (form i).terms is_series.base_within
-          (is_series.names i h) in
-          subst (IsOfWidth width)
-          (ap (form_value (form i)) front
-          ∙ form_value-take (form i) start values (omega arith) names) (found.1 i h),
-    )

@@ -3,7 +3,7 @@ ghost use Rattle.vk_plan.specs.declared.wire.WireKind.TheVariants.{Pair as PairO
 ghost use Rattle.vk_plan.specs.Plans.{IsPlan, extended};
 ghost use Rattle.vk_range.specs.Sets.{listed, test_set, set_row, plus};
 ghost use Rattle.vk_range.specs.Selected.{IsSelection, IsSelected, place_form, place_number, may_stand as MayStand, serves as Serves, first_place as FirstPlace, selector, selectors, selector_row, selected_wires, selected_rows, selected_values};
-ghost use Rattle.vk_range.specs.SelectedLaws.{stage, selected_sound, selected_complete};
+ghost use Rattle.vk_range.specs.SelectedLaws.{selecting, selected_sound, selected_complete};
 
 use crate::sets::{add_set, all_ones, plus_wire, push_or_cut, push_parts};
 use std::alloc::Global;
@@ -126,8 +126,8 @@ impl SelectedIs {
     /// Appends a selector for each place, and the row that they sum to 1.
     fn add_selectors(&self, alloc: Global, plan: &mut Plan) -> Result<(), NoMemory>
         requires most { length self.now.wires ≤ 63 }
-        requires room { IsPlan (stage self.now plan.old 0) }
-        ensures added { OnOk result (plan.new ≡ stage self.now plan.old 0) }
+        requires room { IsPlan (selecting self.now plan.old) }
+        ensures added { OnOk result (plan.new ≡ selecting self.now plan.old) }
         ensures as_before { OnErr result (plan.new ≡ plan.old) }
     {
         let kinds = selector_wires(alloc, self.places())?;

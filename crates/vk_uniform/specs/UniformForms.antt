@@ -1,18 +1,11 @@
 -- The forms of the plan: how many there are, which wires they name, and what they come to in whole
 -- numbers.
-use Rattle.std.specs.Prelude.{ℕ, ◌+◌, ◌-◌, ◌*◌, ◌%◌, ◌^◌, ◌<◌, ◌≤◌, ◌≡◌, Bool, true, false, nat_lt, List, [], ◌∷◌, ◌++◌, All, Contains, flat_map, length, map, slice_index, slice_index_or}
-use Rattle.std.proofs.Common.{refl, sym, ◌∙◌, subst, arith, length-append, suc-mul}
+use Rattle.std.specs.Prelude.{ℕ, ◌+◌, ◌*◌, ◌<◌, ◌≡◌, List, [], ◌∷◌, ◌++◌, All, Contains, flat_map, length, map, slice_index, slice_index_or}
+use Rattle.std.proofs.Common.{◌∙◌, subst, arith, length-append, suc-mul}
 use Rattle.std.proofs.lemmas.List.{length-map, get_or-map}
 use Rattle.std.proofs.lemmas.List.Elements.{All-nil, All-cons, All-head, All-tail, All-append, All-map, All-contains, Contains-get_or}
-use Rattle.std.proofs.lemmas.Bool.{false≢true, lt-ltb, ltb-true}
-use Rattle.vk_residue.specs.Residue.{modulus, sum, difference}
 use Rattle.vk_plan.specs.declared.form.Form.{Form}
-use Rattle.vk_plan.specs.Forms.{linear_part, form_value}
-use Rattle.vk_range.specs.Sets.{IsOfWidth}
-use Rattle.vk_range.specs.Forms.{less_one}
-use Rattle.vk_range.specs.Differences.{width_small, within_means, within_fits}
 use Rattle.vk_range.specs.SetLaws.{length_listed, All-listed}
-use Rattle.vk_range.specs.Laws.{difference_value}
 use Rattle.vk_range.specs.RangedLaws.{All-front, All-back, listed_each}
 use Rattle.vk_uniform.specs.UniformPlans.{price_of, winners_of, losers_of, copy_at, bid_form, win_form, price_form, bid_forms, win_forms, price_forms, uniform_forms}
 
@@ -124,74 +117,3 @@ module _ (inputs : ℕ) (numbers : List ℕ) where
 -- the bid at a position, as its copy has it
 abbrev pub copied : ℕ → List ℕ → ℕ → ℕ
 copied inputs values position = slice_index values (copy_at inputs position)
-
--- of numbers of at most 40 bits: a difference is of the width exactly where the one isn't above the
--- other, and where it is below it for a difference less 1
-win_shows : (a b bound : ℕ) (strict : Bool) → a < bound → b < bound → bound ≤ 1099511627776
-    → (a + (modulus - 1) * b + less_one strict) % modulus < bound
-    → (b ≤ a) × (strict ≡ true → b < a)
-win_shows a b bound true ha hb small h = (omega (arith, h), λ _. omega (arith, h))
-win_shows a b bound false ha hb small h = (omega (arith, h), λ e. absurd (false≢true e))
-
-win_fits : (a b bound : ℕ) (strict : Bool) → a < bound → bound ≤ 1099511627776 → b ≤ a
-    → (strict ≡ true → b < a)
-    → (a + (modulus - 1) * b + less_one strict) % modulus < bound
-win_fits a b bound true ha small le more = omega (arith, more refl)
-win_fits a b bound false ha small le more = omega arith
-
-module _ (inputs : ℕ) (values : List ℕ) where
-  pub bid_value : (place : ℕ) → slice_index values (inputs + place) < modulus
-      → form_value (bid_form inputs place) values ≡ slice_index values (inputs + place)
-  unfolding form_value linear_part
-  bid_value place small = omega arith
-
-  price_value : (price loser : ℕ) → form_value (price_form inputs price loser) values
-      ≡ ((modulus - 1) * copied inputs values loser + price) % modulus
-  unfolding form_value linear_part
-  price_value price loser = omega arith
-
-  module _ (width : ℕ) (most : width ≤ 40) where
-    pub win_shown : (winner loser : ℕ) → IsOfWidth width (copied inputs values winner)
-        → IsOfWidth width (copied inputs values loser)
-        → IsOfWidth width (form_value (win_form inputs winner loser) values)
-        → (copied inputs values loser ≤ copied inputs values winner)
-        × (loser < winner → copied inputs values loser < copied inputs values winner)
-    win_shown winner loser of_winner of_loser within =
-        let strict = nat_lt loser winner in
-        let shown =
-        win_shows (copied inputs values winner) (copied inputs values loser)
-        (2 ^ width) strict of_winner of_loser (width_small width most)
-        (subst (IsOfWidth width)
-        (difference_value (copy_at inputs winner) (copy_at inputs loser) strict values) within) in
-        (shown.0, λ before. shown.1 (lt-ltb loser winner before))
-
-    pub win_within : (winner loser : ℕ) → IsOfWidth width (copied inputs values winner)
-        → copied inputs values loser ≤ copied inputs values winner
-        → (loser < winner → copied inputs values loser < copied inputs values winner)
-        → IsOfWidth width (form_value (win_form inputs winner loser) values)
-    win_within winner loser of_winner low more =
-        let strict = nat_lt loser winner in
-        subst (IsOfWidth width)
-        (sym (difference_value (copy_at inputs winner) (copy_at inputs loser) strict values))
-        (win_fits (copied inputs values winner) (copied inputs values loser) (2 ^ width) strict
-        of_winner
-        (width_small width most) low
-        (λ test. more (ltb-true loser winner test)))
-
-    pub price_shown : (price loser : ℕ) → IsOfWidth width price
-        → IsOfWidth width (copied inputs values loser)
-        → IsOfWidth width (form_value (price_form inputs price loser) values)
-        → copied inputs values loser ≤ price
-    price_shown price loser of_price of_loser within =
-        within_means (copied inputs values loser) price (2 ^ width) of_loser of_price
-        (width_small width most)
-        (subst (IsOfWidth width) (price_value price loser) within)
-
-    pub price_within : (price loser : ℕ) → IsOfWidth width price
-        → copied inputs values loser ≤ price
-        → IsOfWidth width (form_value (price_form inputs price loser) values)
-    price_within price loser of_price low =
-        subst (IsOfWidth width) (sym (price_value price loser))
-        (within_fits (copied inputs values loser) price (2 ^ width) of_price
-        (width_small width most)
-        low)

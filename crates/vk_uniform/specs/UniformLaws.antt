@@ -1,11 +1,11 @@
 -- The plan of a sale of equal units shows its outcome, and every outcome can be shown.
-use Rattle.std.specs.Prelude.{ℕ, ◌+◌, ◌-◌, ◌*◌, ◌^◌, ◌<◌, ◌≤◌, ◌≡◌, ◌≢◌, Bool, if◌then◌else◌, nat_lt, List, [], ◌∷◌, ◌++◌, All, Contains, length, map, take, slice_index}
+use Rattle.std.specs.Prelude.{ℕ, ◌+◌, ◌-◌, ◌*◌, ◌<◌, ◌≤◌, ◌≡◌, ◌≢◌, Bool, if◌then◌else◌, nat_lt, List, [], ◌∷◌, ◌++◌, All, Contains, length, take, slice_index}
 use Rattle.std.proofs.Common.{refl, sym, ap, ◌∙◌, subst, arith, inl, inr, length-append, get_or-take, mul-le-mul_left, mul-le-mul_right}
 use Rattle.std.proofs.lemmas.List.{nil_from_length, length-map, get_or-map, get_or_default, length-take-le, length-drop, take-take, take-append-le}
 use Rattle.std.proofs.lemmas.List.Elements.{All-map, All-contains}
 use Rattle.std.proofs.lemmas.Bool.{cases_lt, eq-eqb, ne_eqb}
 use Rattle.std.proofs.lemmas.Bool.Decides.{eqb_tells}
-use Rattle.vk_residue.specs.Residue.{modulus, IsResidue, sum, difference}
+use Rattle.vk_residue.specs.Residue.{modulus}
 use Rattle.vk_plan.specs.declared.form.Form.{Form}
 use Rattle.vk_plan.specs.Forms.{form_value, NamesBelow}
 use Rattle.vk_plan.specs.Plans.{PlanValue, IsPlan, Holds}
@@ -17,14 +17,15 @@ use Rattle.vk_range.specs.Ranges.{ranges_values}
 use Rattle.vk_range.specs.Ranged.{IsRanged, MayBeFilled, AreRanged, ranged_plan, ranged_values}
 use Rattle.vk_range.specs.RangedLaws.{ranged_is_plan, ranged_sound, ranged_of_width, ranged_begins, ranged_wires, ranged_rows}
 use Rattle.vk_range.specs.Selected.{IsSelection, IsSelected, place_row, selected_wires, selected_rows, selected_values}
-use Rattle.vk_range.specs.SelectedLaws.{length_kinds, selected_sound, selected_complete}
+use Rattle.vk_range.specs.SelectedLaws.{length_selected, selected_sound, selected_complete}
 use Rattle.vk_range.specs.SetLaws.{length_listed}
 use Rattle.vk_range.specs.Rooms.{selected_room}
-use Rattle.vk_range.specs.Differences.{width_small, reaches_means, equal_fits, below_fits}
+use Rattle.vk_range.specs.Differences.{width_small, wire_value, wire_within, limit_shown, limit_within, order_shown, order_within}
+use Rattle.vk_range.specs.Holders.{value_at, selected_holds, holder_selected}
 use Rattle.vk_uniform.specs.Outcomes.{IsPositionAmong, IsLoser, Beats, bid_at}
 use Rattle.vk_uniform.specs.Losers.{found, losers, losers_lose, loser_listed, few_losers, few_winners}
 use Rattle.vk_uniform.specs.UniformPlans.{IsUniformCase, IsUniformInLimits, IsUniformClaim, width_of, price_of, winners_of, losers_of, copy_at, win_form, uniform_ranges, price_selection, with_selection, uniform_plan, uniform_values, wire_count, row_count}
-use Rattle.vk_uniform.specs.UniformForms.{AreForms, All-forms, forms-All, length_forms, copied, bid_value, win_shown, win_within, price_shown, price_within}
+use Rattle.vk_uniform.specs.UniformForms.{AreForms, All-forms, forms-All, length_forms, copied}
 
 -- the numbers are the width, the price and the winners
 pub split_numbers : (numbers : List ℕ) → 3 ≤ length numbers
@@ -210,7 +211,7 @@ module _ (inputs : ℕ) (numbers values : List ℕ) (case : IsUniformCase inputs
       → IsOfWidth (width_of numbers) (slice_index values (inputs + place))
   place_small place h =
       subst (IsOfWidth (width_of numbers))
-      (bid_value inputs values place
+      (wire_value (inputs + place) values
       (ranged.residues (inputs + place) 0 (omega (arith, ranged.enough))))
       (shown.of_bids place h)
 
@@ -234,9 +235,9 @@ module _ (inputs : ℕ) (numbers values : List ℕ) (case : IsUniformCase inputs
       let form = shown.of_wins winner loser wins
       (loser_listed inputs (winners_of numbers) loser loses) in
       let found =
-      win_shown inputs values (width_of numbers) case.limits.wide.most winner loser
-      (copy_small winner first)
-      (copy_small loser second) form in
+      order_shown (width_of numbers) case.limits.wide.most values (copy_at inputs winner)
+      (copy_at inputs loser) loser winner (copy_small winner first) (copy_small loser second) form
+      in
       let here = bid_shown winner first in
       let there = bid_shown loser second in
       record {
@@ -247,8 +248,8 @@ module _ (inputs : ℕ) (numbers values : List ℕ) (case : IsUniformCase inputs
   copy_within_price : (loser : ℕ) → IsLoser inputs (winners_of numbers) loser
       → copied inputs values loser ≤ price_of numbers
   copy_within_price loser loses =
-      price_shown inputs values (width_of numbers) case.limits.wide.most
-      (price_of numbers) loser case.limits.within_width (copy_small loser loses.is_position)
+      limit_shown (width_of numbers) case.limits.wide.most values (price_of numbers)
+      (copy_at inputs loser) case.limits.within_width (copy_small loser loses.is_position)
       (shown.of_prices loser (loser_listed inputs (winners_of numbers) loser loses))
 
   holder_shown : (place : ℕ) → IsSelected (price_selection inputs numbers) values place
@@ -256,20 +257,28 @@ module _ (inputs : ℕ) (numbers values : List ℕ) (case : IsUniformCase inputs
       × (copied inputs values loser ≡ price_of numbers)
   holder_shown place selected =
       let outside = losers_of inputs numbers in
-      let price = price_of numbers in
-      let bound = 2 ^ width_of numbers in
-      let inside : place < length outside =
-      omega (arith, selected.is_place, length-map outside (copy_at inputs)) in
-      let loser = slice_index outside place in
-      let loses = losers_lose inputs (winners_of numbers) place 0 inside in
-      let here =
-      subst (λ wire. difference (slice_index values wire) price < bound)
-      (get_or-map (copy_at inputs) outside place 0 0 inside) selected.here in (
-        loser,
-        loses,
-        reaches_means (copied inputs values loser) price bound
-            (copy_within_price loser loses) case.limits.within_width
-            (width_small (width_of numbers) case.limits.wide.most) here,
+      let relation = price_selection inputs numbers in
+      let long = length-map outside (copy_at inputs) in
+      let read : (place : ℕ) → place < length outside
+      → value_at relation values place ≡ copied inputs values (slice_index outside place) =
+      λ place h. ap (slice_index values) (get_or-map (copy_at inputs) outside place 0 0 h) in
+      let loses : (place : ℕ) → place < length outside
+      → IsLoser inputs (winners_of numbers) (slice_index outside place) =
+      λ place h. losers_lose inputs (winners_of numbers) place 0 h in
+      let low : (place : ℕ) → place < length relation.wires
+      → value_at relation values place ≤ price_of numbers =
+      λ place h.
+      let inside : place < length outside = omega arith in
+      omega (
+        arith,
+        read place inside,
+        copy_within_price (slice_index outside place) (loses place inside),
+      ) in
+      let inside : place < length outside = omega (arith, selected.is_place) in (
+        slice_index outside place,
+        loses place inside,
+        sym (read place inside) ∙ selected_holds relation values case.limits.wide.most
+            case.limits.within_width low place selected,
       )
 
   claim_shown : (length (losers_of inputs numbers) ≢ 0 → (place : ℕ)
@@ -437,7 +446,8 @@ module _ (inputs : ℕ) (numbers bids values : List ℕ) (case : IsUniformCase i
       let beaten = claim.outcome.winners_beat winner loser wins (loser_here loser loses) in
       let here = bid_here winner first in
       let there = bid_here loser loses.is_position in
-      win_within inputs values (width_of numbers) case.limits.wide.most winner loser
+      order_within (width_of numbers) case.limits.wide.most values (copy_at inputs winner)
+      (copy_at inputs loser) loser winner
       (place_below (winner - 1) (omega (arith, first.some, first.within)))
       (omega (arith, beaten.bids_no_less, here, there))
       (λ before. omega (arith, beaten.bids_more_behind before, here, there))
@@ -445,18 +455,34 @@ module _ (inputs : ℕ) (numbers bids values : List ℕ) (case : IsUniformCase i
   forms_fit : AreForms inputs numbers
       (λ form. IsOfWidth (width_of numbers) (form_value form values))
   forms_fit = record {
-    of_bids = λ place h.
-        let small = place_below place h in
-        subst (IsOfWidth (width_of numbers))
-        (sym (bid_value inputs values place
-        (omega (arith, small, width_small (width_of numbers) case.limits.wide.most)))) small;
+    of_bids = λ place h. wire_within (width_of numbers) case.limits.wide.most values
+        (inputs + place) (place_below place h);
     of_wins = λ winner loser wins loses. wins_fit winner loser wins
         (loser_is inputs numbers case loser loses);
     of_prices = λ loser loses.
-        price_within inputs values (width_of numbers) case.limits.wide.most
-        (price_of numbers) loser case.limits.within_width
+        limit_within (width_of numbers) case.limits.wide.most values (price_of numbers)
+        (copy_at inputs loser) case.limits.within_width
         (within_price loser (loser_is inputs numbers case loser loses));
   }
+
+  -- a listed loser's copy, where the selection reads it
+  pub copy_read : (place : ℕ) → place < length (losers_of inputs numbers)
+      → value_at (price_selection inputs numbers) values place
+      ≡ copied inputs values (slice_index (losers_of inputs numbers) place)
+  copy_read place h =
+      ap (slice_index values) (get_or-map (copy_at inputs) (losers_of inputs numbers) place 0 0 h)
+
+  pub listed_low : (place : ℕ) → place < length (price_selection inputs numbers).wires
+      → value_at (price_selection inputs numbers) values place ≤ price_of numbers
+  listed_low place h =
+      let outside = losers_of inputs numbers in
+      let inside : place < length outside = omega (arith, length-map outside (copy_at inputs)) in
+      omega (
+        arith,
+        copy_read place inside,
+        within_price (slice_index outside place)
+            (losers_lose inputs (winners_of numbers) place 0 inside),
+      )
 
   -- a loser who holds the price may be selected
   pub may_be_selected : length (losers_of inputs numbers) ≢ 0 → (place : ℕ)
@@ -465,38 +491,19 @@ module _ (inputs : ℕ) (numbers bids values : List ℕ) (case : IsUniformCase i
       let outside = losers_of inputs numbers in
       let winners = winners_of numbers in
       let price = price_of numbers in
-      let small = width_small (width_of numbers) case.limits.wide.most in
       let first = losers_lose inputs winners 0 0 (omega (arith, some)) in
       let held =
       claim.outcome.price_is_bid (slice_index outside 0) (loser_here (slice_index outside 0) first)
       in
       let holder = subst (λ n. IsLoser n winners held.holder) claim.one_each held.is_loser in
       let at = found outside held.holder (loser_listed inputs winners held.holder holder) in
-      let read : (place : ℕ) → place < length outside
-      → slice_index (map (copy_at inputs) outside) place
-      ≡ copy_at inputs (slice_index outside place) =
-      λ place h. get_or-map (copy_at inputs) outside place 0 0 h in
       let long = length-map outside (copy_at inputs) in
       let holds : copied inputs values (slice_index outside at.0) ≡ price =
       ap (copied inputs values) at.2 ∙ bid_here held.holder holder.is_position ∙ held.bids_price in (
         at.0,
-        record {
-          is_place = omega (arith, at.1);
-          here =
-              subst (λ wire. difference (slice_index values wire) price < 2 ^ width_of numbers)
-              (sym (read at.0 at.1))
-              (equal_fits (copied inputs values (slice_index outside at.0)) price
-              (2 ^ width_of numbers) holds case.limits.within_width small);
-          others = λ place h ne.
-              let inside : place < length outside = omega arith in
-              let loses = losers_lose inputs winners place 0 inside in
-              subst (λ wire. sum (slice_index values wire)
-              (difference (2 ^ width_of numbers - 1) price) < 2 ^ width_of numbers)
-              (sym (read place inside))
-              (below_fits (copied inputs values (slice_index outside place)) price
-              (2 ^ width_of numbers)
-              (within_price (slice_index outside place) loses) case.limits.within_width small);
-        },
+        holder_selected (price_selection inputs numbers) values case.limits.wide.most
+            case.limits.within_width listed_low at.0 (omega (arith, at.1))
+            (copy_read at.0 at.1 ∙ holds),
       )
 
 module _ (inputs : ℕ) (numbers bids : List ℕ) (case : IsUniformCase inputs numbers) (claim : IsUniformClaim inputs numbers bids) where
@@ -586,7 +593,7 @@ module _ (inputs : ℕ) (numbers : List ℕ) where
             ∙ omega (arith, wires, forms, sets, nothing, none.1))
         | inr some ↦
             (let long = length-map (losers_of inputs numbers) (copy_at inputs) in
-            let selection = length_kinds relation (length relation.wires) in
+            let selection = length_selected relation in
             let each = ap (λ count. count * width) long in
             ap (λ (p : PlanValue). length p.kinds) (plan_many inputs numbers some.1)
             ∙ length-append plan.kinds (selected_wires relation)

@@ -4,7 +4,7 @@ use Rattle.std.proofs.Common.{true, false, ltb, rules, refl, sym, ap, ◌∙◌,
 use Rattle.std.proofs.lemmas.List.{length-take-le, get_or_default}
 use Rattle.std.proofs.lemmas.List.Elements.{All-nil, All-cons, All-append}
 use Rattle.std.proofs.lemmas.Bool.{cases_lt, lt-ltb, le-ltb}
-use Rattle.vk_residue.specs.Residue.{modulus, negative, IsResidue}
+use Rattle.vk_residue.specs.Residue.{modulus, negative}
 use Rattle.vk_plan.specs.declared.form.Form.{Form}
 use Rattle.vk_plan.specs.Forms.{linear_part, form_value, NamesBelow}
 use Rattle.vk_plan.specs.Plans.{PlanValue, IsPlan, Holds}
@@ -15,7 +15,7 @@ use Rattle.vk_range.specs.Others.{other}
 use Rattle.vk_range.specs.Copies.{begins_alone}
 use Rattle.vk_range.specs.Ranges.{AreOfWidth}
 use Rattle.vk_range.specs.Ranged.{IsRanged, MayBeFilled, AreRanged, ranged_plan, ranged_values}
-use Rattle.vk_range.specs.Differences.{width_small, within_means, within_fits}
+use Rattle.vk_range.specs.Differences.{width_small, limit_shown, limit_within}
 use Rattle.vk_range.specs.RangedLaws.{ranged_is_plan, ranged_sound, ranged_of_width, ranged_begins, ranged_wires, ranged_rows, All-front, All-back, listed_each}
 use Rattle.vk_vickrey.specs.declared.reserve.ReservePlan.{ReservePlan}
 use Rattle.vk_vickrey.specs.declared.sales.Sale.{Sale}
@@ -23,9 +23,9 @@ use Rattle.vk_vickrey.specs.declared.sales.Sale.TheVariants.{Sold, Unsold}
 use Rattle.vk_vickrey.specs.Outcomes.{IsVickreyOutcome}
 use Rattle.vk_vickrey.specs.OutcomeLaws.{outcome_exists, outcome_of_sold}
 use Rattle.vk_vickrey.specs.SaleLaws.{sold_at_price}
-use Rattle.vk_vickrey.specs.VickreyPlans.{IsVickreyCase, IsVickreyClaim, bid_form, win_form, price_form, vickrey_forms, vickrey_plan, honest_values, wire_count, row_count}
-use Rattle.vk_vickrey.specs.VickreyLaws.{HoldsBeforeSelection, win_shown, bid_value, less_value, position_of, bid_at_place, bid_of, bids_fit, wins_fit, within_price, price_value, bids_series, vickrey_sound, vickrey_complete}
-use Rattle.vk_vickrey.specs.VickreyRanges.{All-vickrey_forms, forms_over, length_forms}
+use Rattle.vk_vickrey.specs.VickreyPlans.{IsVickreyCase, IsVickreyClaim, bid_form, vickrey_forms, vickrey_plan, honest_values, wire_count, row_count}
+use Rattle.vk_vickrey.specs.VickreyLaws.{win_shown, vickrey_sound, vickrey_complete}
+use Rattle.vk_vickrey.specs.VickreyRanges.{All-vickrey_forms, forms_over, forms_shown, copy_small, bid_names, length_forms, position_of, bid_at_place, bid_of, bids_fit, wins_fit, within_price}
 use Rattle.vk_vickrey.specs.VickreySteps.{vickrey_is_plan, honest_begins, vickrey_wires, vickrey_rows}
 use Rattle.vk_vickrey.specs.ReservePlans.{IsReserveCase, IsBoardClaim, IsWithinReserve, below_form, reach_form, sale_forms, sale_ranges, reserve_plan, reserve_values, sale_wire_count, sale_row_count}
 
@@ -184,14 +184,13 @@ sale_names seals width reserve (Sold position price) case =
     (arith, case.sale_case.some_position, case.sale_case.within_seals) in
     let Named : Form → Type 0 = λ form. NamesBelow (seals + seals) form.terms in
     All-append Named (vickrey_forms seals winner reserve) (reach_form seals winner reserve ∷ [])
-    (forms_over seals winner width w case.wide.least case.wide.most reserve).names
+    (forms_over seals winner w width reserve case.wide).names
     (All-cons Named (reach_form seals winner reserve) []
     (one_name (seals + seals) (plus (seals + winner)) (omega arith)) (All-nil Named))
 sale_names seals width reserve Unsold case =
     let Named : Form → Type 0 = λ form. NamesBelow (seals + seals) form.terms in
     All-append Named (listed (bid_form seals) seals) (listed (below_form seals (reserve - 1)) seals)
-    (All-listed Named (bid_form seals) seals
-    (bids_series seals width case.wide.least case.wide.most).names)
+    (All-listed Named (bid_form seals) seals (bid_names seals))
     (All-listed Named (below_form seals (reserve - 1)) seals
     (λ j h. one_name (seals + seals) (minus (seals + j)) (omega arith)))
 
@@ -205,12 +204,6 @@ sale_ranged seals width reserve sale case = record {
 }
 
 -- what holds for the plan shows the sale, within the reserve
-module _ (seals width : ℕ) (values : List ℕ) (most : width ≤ 40) (enough : seals + seals ≤ length values) (residues : All IsResidue values) where
-  copy_small : (j : ℕ) → j < seals → IsOfWidth width (form_value (bid_form seals j) values)
-      → slice_index values (seals + j) < 2 ^ width
-  copy_small j h = subst (IsOfWidth width)
-      (bid_value seals j values (residues (seals + j) 0 (omega arith)))
-
 within_sound : (seals width reserve : ℕ) (sale : Sale) (values : List ℕ)
     → IsReserveCase seals width reserve sale → IsWithinReserve reserve sale
     → AreRanged seals (sale_ranges seals width reserve sale) values
@@ -220,31 +213,19 @@ within_sound seals width reserve (Sold position price) values case low ranged =
     let w : winner < seals = omega
     (arith, case.sale_case.some_position, case.sale_case.within_seals) in
     let Fits : Form → Type 0 = λ form. IsOfWidth width (form_value form values) in
-    let bids = listed (bid_form seals) seals in
-    let wins = listed (win_form seals winner) (seals - 1) in
-    let prices = listed (price_form seals winner reserve) (seals - 1) in
     let reach = reach_form seals winner reserve in
-    let all = All-front Fits (vickrey_forms seals winner reserve) (reach ∷ []) ranged.of_width in
     let last = All-back Fits (vickrey_forms seals winner reserve) (reach ∷ []) ranged.of_width 0
     reach (omega arith) in
-    let first = All-front Fits (bids ++ wins) prices all in
-    let copies : (j : ℕ) → j < seals → slice_index values (seals + j) < 2 ^ width =
-    λ j h. copy_small seals width values case.wide.most ranged.enough ranged.residues j h
-    (listed_each Fits (bid_form seals) seals (All-front Fits bids wins first) j h) in
-    let shown : HoldsBeforeSelection seals width winner reserve values = record {
-      copied = ranged.copied;
-      bids = copies;
-      wins = listed_each Fits (win_form seals winner) (seals - 1) (All-back Fits bids wins first);
-      prices = listed_each Fits (price_form seals winner reserve) (seals - 1)
-          (All-back Fits (bids ++ wins) prices all);
-    } in
+    let shown = forms_shown seals width winner reserve values ranged.enough ranged.residues
+    ranged.copied
+    (All-front Fits (vickrey_forms seals winner reserve) (reach ∷ []) ranged.of_width) in
     let win = win_shown seals width position reserve values case.sale_case.some_position
     case.sale_case.within_seals case.wide.most
     case.reserve_within_width (omega (arith, ranged.enough)) shown in
     let bid : slice_index (take seals values) winner ≡ slice_index values (seals + winner) =
     get_or-take seals values winner 0 w ∙ ranged.copied winner w in
     let reached = reach_means (slice_index values (seals + winner)) reserve (2 ^ width)
-    (copies winner w) case.reserve_within_width
+    (shown.bids winner w) case.reserve_within_width
     (width_small width case.wide.most)
     (subst (IsOfWidth width) (reach_value seals winner reserve values) last) in
     let paid : price ≡ reserve = omega (arith, low, case.sale_case.reserve_within_price) in
@@ -269,7 +250,7 @@ within_sound seals width reserve Unsold values case low ranged =
     → slice_index (take seals values) j ≡ slice_index values (seals + j) =
     λ j h. get_or-take seals values j 0 h ∙ ranged.copied j h in
     let copies : (j : ℕ) → j < seals → slice_index values (seals + j) < 2 ^ width =
-    λ j h. copy_small seals width values case.wide.most ranged.enough ranged.residues j h
+    λ j h. copy_small seals width values ranged.enough ranged.residues j h
     (listed_each Fits (bid_form seals) seals (All-front Fits bids below ranged.of_width) j h) in
     record {
       one_each = long;
@@ -281,10 +262,8 @@ within_sound seals width reserve Unsold values case low ranged =
           let inside : j < seals = omega (arith, at.some, at.within) in
           let form = listed_each Fits (below_form seals (reserve - 1)) seals
           (All-back Fits bids below ranged.of_width) j inside in
-          let within = within_means (slice_index values (seals + j)) (reserve - 1) (2 ^ width)
-          (copies j inside) (omega (arith, case.reserve_within_width))
-          (width_small width case.wide.most)
-          (subst (IsOfWidth width) (less_value (reserve - 1) (seals + j) values) form) in
+          let within = limit_shown width case.wide.most values (reserve - 1) (seals + j)
+          (omega (arith, case.reserve_within_width)) (copies j inside) form in
           omega (arith, within, bid j inside, case.sale_case);
     }
 
@@ -380,15 +359,14 @@ sale_fits seals width reserve (Sold position price) bids case low claim =
     (All-vickrey_forms Fits seals winner reserve
     (bids_fit seals width position found.0 bids values case' claim' begins)
     (wins_fit seals width position found.0 bids values case' claim' begins)
-    (λ k h. subst (IsOfWidth width) (sym (price_value seals winner reserve k values))
-    (within_fits (slice_index values (seals + other winner k)) reserve (2 ^ width)
-    case.reserve_within_width small
+    (λ k h. limit_within width case.wide.most values reserve (seals + other winner k)
+    case.reserve_within_width
     (omega (
       arith,
       found.2,
       low,
       within_price seals width position found.0 bids values case' claim' begins k h,
-    )))))
+    ))))
     (All-cons Fits reach [] (subst (IsOfWidth width) (sym (reach_value seals winner reserve values))
     reached) (All-nil Fits))
 sale_fits seals width reserve Unsold bids case low claim =
@@ -402,15 +380,14 @@ sale_fits seals width reserve Unsold bids case low claim =
     (All-listed Fits (bid_form seals) seals
     (bids_fit seals width found.0 found.1 bids values case' claim' begins))
     (All-listed Fits (below_form seals (reserve - 1)) seals
-    (λ j h. subst (IsOfWidth width) (sym (less_value (reserve - 1) (seals + j) values))
-    (within_fits (slice_index values (seals + j)) (reserve - 1) (2 ^ width)
-    (omega (arith, case.reserve_within_width)) (width_small width case.wide.most)
+    (λ j h. limit_within width case.wide.most values (reserve - 1) (seals + j)
+    (omega (arith, case.reserve_within_width))
     (omega (
       arith,
       claim.is_sale (j + 1) (position_of bids j (omega (arith, claim.one_each))),
       bid_at_place bids j,
       bid_of seals width found.0 found.1 bids values case' claim' begins j h,
-    )))))
+    ))))
 
 pub sale_filled : (seals width reserve : ℕ) (sale : Sale) (bids : List ℕ)
     → IsReserveCase seals width reserve sale → IsWithinReserve reserve sale

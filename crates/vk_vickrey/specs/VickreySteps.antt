@@ -1,5 +1,5 @@
 -- What the code meets on its way: plans that are plans, and room for the next set.
-use Rattle.std.specs.Prelude.{Option, Some, None, IsNone, IfSome, unwrap_or, ℕ, ◌+◌, ◌-◌, ◌*◌, ◌^◌, ◌<◌, ◌≤◌, ◌≡◌, ◌≢◌, if◌then◌else◌, List, ◌++◌, length, take, replicate}
+use Rattle.std.specs.Prelude.{Bool, true, false, ◌==◌, Option, Some, None, IsNone, IfSome, unwrap_or, ℕ, ◌+◌, ◌-◌, ◌*◌, ◌^◌, ◌<◌, ◌≤◌, ◌≡◌, ◌≢◌, if◌then◌else◌, List, ◌++◌, length, take}
 use Rattle.std.proofs.Common.{suc, suc-mul, refl, sym, ap, ◌∙◌, subst, arith, inl, inr, length-append, mul-le-mul_left, mul-le-mul_right}
 use Rattle.std.proofs.lemmas.List.{length-replicate, take-append-le, take_at}
 use Rattle.std.proofs.lemmas.Bool.{eq-eqb, ne_eqb}
@@ -8,19 +8,17 @@ use Rattle.std.proofs.Math.Pow.{pow_mono}
 use Rattle.vk_residue.specs.Residue.{modulus}
 use Rattle.vk_plan.specs.declared.wire.WireKind.TheVariants.{Split}
 use Rattle.vk_plan.specs.Plans.{PlanValue, IsPlan, Holds, plan_of_inputs, extended}
-use Rattle.vk_range.specs.declared.selected.SelectedIs.{SelectedIs}
-use Rattle.vk_range.specs.Others.{other, other_within}
-use Rattle.vk_range.specs.SetLaws.{length_listed, All-listed}
+use Rattle.vk_range.specs.Others.{other}
+use Rattle.vk_range.specs.SetLaws.{length_listed}
 use Rattle.vk_range.specs.Series.{series_values}
-use Rattle.vk_range.specs.Selected.{IsSelection, selected_wires, selected_rows, selected_values}
+use Rattle.vk_range.specs.Selected.{IsSelection, place_row, selected_wires, selected_rows, selected_values}
 use Rattle.vk_range.specs.Rooms.{selected_room}
-use Rattle.vk_range.specs.Selected.{place_row}
-use Rattle.vk_range.specs.SelectedLaws.{length_kinds}
+use Rattle.vk_range.specs.SelectedLaws.{length_selected}
 use Rattle.vk_range.specs.Ranged.{ranges_of}
-use Rattle.vk_range.specs.RangedLaws.{ranged_rows, ranged_is_plan}
+use Rattle.vk_range.specs.RangedLaws.{ranged_rows}
 use Rattle.vk_vickrey.specs.VickreyPlans.{IsVickreyCase, IsVickreyClaim, bid_form, win_form, price_form, price_selection, vickrey_forms, vickrey_plan, wire_count, row_count, after_bids, after_wins, after_prices, after_selection, honest_values}
-use Rattle.vk_vickrey.specs.VickreyLaws.{length_prices, plan_alone, plan_many, with_prices, selection, vickrey_sound}
-use Rattle.vk_vickrey.specs.VickreyRanges.{length_forms, prices_ranged, vickrey_ranged}
+use Rattle.vk_vickrey.specs.VickreyLaws.{plan_alone, plan_many, selection, vickrey_sound}
+use Rattle.vk_vickrey.specs.VickreyRanges.{length_forms, length_prices, prices_plan, prices_ranged, with_prices}
 
 products : (count width : ℕ) → count ≤ 64 → width ≤ 40 → count * width ≤ 2560
 products count width few small = omega (arith, mul-le-mul_right width few, mul-le-mul_left 64 small)
@@ -85,19 +83,15 @@ circuit_sound seals width position price values case holds =
 
 module _ (seals width position price : ℕ) (case : IsVickreyCase seals width position price) where
   -- the selection
-  pub prices_plan : IsPlan (with_prices seals width (position - 1) price)
-  prices_plan =
-      let winner = position - 1 in
-      subst IsPlan (sym (prices_ranged seals width winner price))
-      (ranged_is_plan seals (ranges_of (vickrey_forms seals winner price) width)
-      (vickrey_ranged seals width position price case))
-
   pub selection_fits : seals ≢ 1
       → IsSelection (price_selection seals width (position - 1) price)
       (length (with_prices seals width (position - 1) price).kinds)
   selection_fits many =
-      selection seals width (position - 1) price (omega (arith, case.some_seals, many))
-      case.most_seals (is_winner seals width position price case) case.wide.least case.wide.most
+      selection seals width (position - 1) price
+      (length (with_prices seals width (position - 1) price).kinds)
+      (omega (arith, case.some_seals, many)) case.most_seals
+      (is_winner seals width position price case) case.wide
+      (omega (arith, length_prices seals width (position - 1) price))
 
   pub selection_room : seals ≢ 1
       → IsPlan (extended (with_prices seals width (position - 1) price)
@@ -111,8 +105,8 @@ module _ (seals width position price : ℕ) (case : IsVickreyCase seals width po
       let fewer = products (seals - 1) width (omega (arith, case.most_seals)) case.wide.most in
       let long = length_listed (λ k. seals + other (position - 1) k) (seals - 1) in
       let few : length relation.wires ≤ 64 = omega (arith, case.most_seals) in
-      selected_room (with_prices seals width (position - 1) price) relation prices_plan
-      (selection_fits many)
+      selected_room (with_prices seals width (position - 1) price) relation
+      (prices_plan seals width position price case) (selection_fits many)
       (omega (arith, products (length relation.wires) width few case.wide.most, case.most_seals))
       (omega (arith, rows_before seals width (position - 1) price, case.most_seals))
 
@@ -145,18 +139,12 @@ module _ (seals width position price : ℕ) (case : IsVickreyCase seals width po
       (length plan.kinds) × (length plan.kinds ≡ length values))
   selection_over values many enough =
       let same = length-replicate (length values) Split in
-      let w = is_winner seals width position price case in
-      let long = length_listed (λ k. seals + other (position - 1) k) (seals - 1) in (
+      let fits = selection seals width (position - 1) price (length values)
+      (omega (arith, case.some_seals, many)) case.most_seals
+      (is_winner seals width position price case) case.wide enough in (
         plan_of_inputs (length values),
         (
-          record {
-            names = All-listed (λ wire. wire < length (replicate (length values) Split))
-                (λ k. seals + other (position - 1) k) (seals - 1)
-                (λ k h. omega (arith, other_within seals (position - 1) k w h));
-            one = omega (arith, case.some_seals, many);
-            most = omega (arith, case.most_seals);
-            wide = case.wide;
-          },
+          subst (IsSelection (price_selection seals width (position - 1) price)) (sym same) fits,
           same,
         ),
       )
@@ -170,11 +158,6 @@ price_is_residue None width price most small refused value =
 price_is_residue (Some r) width price most small refused value = value
 
 -- how many wires and rows the plan has
-selected_count : (relation : SelectedIs)
-    → length (selected_wires relation)
-    ≡ length relation.wires + length relation.wires * relation.width
-selected_count relation = length_kinds relation (length relation.wires)
-
 four_sets : (k width : ℕ) → width * (4 * k + 1) ≡ 4 * (k * width) + width
 four_sets k width = omega arith
 
@@ -190,49 +173,6 @@ prices_count seals width winner price some =
     ap (λ n. width * n) sets ∙ four_sets (seals - 1) width in
     omega (arith, length_prices seals width winner price)
 
-pub wires_alone : (seals width position price : ℕ) → seals ≡ 1
-    → length (vickrey_plan seals width position price).kinds ≡ wire_count seals width
-wires_alone seals width position price one =
-    let here : (seals - 1) * width ≡ 0 =
-    (let e : seals - 1 ≡ 0 = omega arith in ap (λ n. n * width) e ∙ omega arith) in
-    ap (λ p. length p.kinds) (plan_alone seals width position price (eq-eqb seals 1 one))
-    ∙ omega (arith, prices_count seals width (position - 1) price (omega arith))
-
-pub wires_many : (seals width position price : ℕ) → 1 ≤ seals → seals ≢ 1
-    → length (vickrey_plan seals width position price).kinds ≡ wire_count seals width
-wires_many seals width position price some many =
-    let relation = price_selection seals width (position - 1) price in
-    let plan = with_prices seals width (position - 1) price in
-    let long = length_listed (λ k. seals + other (position - 1) k) (seals - 1) in
-    let sets = ap (λ n. n * width) long in
-    ap (λ p. length p.kinds) (plan_many seals width position price (ne_eqb seals 1 many))
-    ∙ (length-append plan.kinds (selected_wires relation)
-    ∙ omega (arith, selected_count relation, prices_count seals width (position - 1) price some))
-
-pub rows_alone : (seals width position price : ℕ) → seals ≡ 1
-    → length (vickrey_plan seals width position price).rows ≡ row_count seals
-rows_alone seals width position price one =
-    ap (λ p. length p.rows) (plan_alone seals width position price (eq-eqb seals 1 one))
-    ∙ (rows_before seals width (position - 1) price
-    ∙ (omega arith ∙ sym (ap (λ b. if b then 2 else 5 * seals - 2) (eq-eqb seals 1 one))))
-
-pub rows_many : (seals width position price : ℕ) → 1 ≤ seals → seals ≢ 1
-    → length (vickrey_plan seals width position price).rows ≡ row_count seals
-rows_many seals width position price some many =
-    let relation = price_selection seals width (position - 1) price in
-    let plan = with_prices seals width (position - 1) price in
-    let start = length plan.kinds in
-    let long = length_listed (λ k. seals + other (position - 1) k) (seals - 1) in
-    let sum : length (plan.rows ++ selected_rows relation start) ≡ 5 * seals - 2 =
-    length-append plan.rows (selected_rows relation start)
-    ∙ omega (
-      arith,
-      rows_before seals width (position - 1) price,
-      length_listed (place_row relation start) (length relation.wires),
-    ) in
-    ap (λ p. length p.rows) (plan_many seals width position price (ne_eqb seals 1 many))
-    ∙ (sum ∙ sym (ap (λ b. if b then 2 else 5 * seals - 2) (ne_eqb seals 1 many)))
-
 -- the plan is one, with so many wires and rows
 pub vickrey_is_plan : (seals width position price : ℕ) → IsVickreyCase seals width position price
     → IsPlan (vickrey_plan seals width position price)
@@ -247,17 +187,48 @@ vickrey_is_plan seals width position price case =
 pub vickrey_wires : (seals width position price : ℕ) → 1 ≤ seals
     → length (vickrey_plan seals width position price).kinds ≡ wire_count seals width
 vickrey_wires seals width position price some =
+    let winner = position - 1 in
+    let relation = price_selection seals width winner price in
+    let plan = with_prices seals width winner price in
+    let long = length_listed (λ k. seals + other winner k) (seals - 1) in
+    let sets = ap (λ n. n * width) long in
+    let count = prices_count seals width winner price some in
     elim (eqb_tells seals 1) [
-      | inl one ↦ wires_alone seals width position price one.1
-      | inr many ↦ wires_many seals width position price some many.1
+      | inl one ↦
+          (let others : seals - 1 ≡ 0 = omega (arith, one.1) in
+          let none = ap (λ n. n * width) others in
+          ap (λ p. length p.kinds) (plan_alone seals width position price one.0)
+          ∙ omega (arith, count, none, others))
+      | inr many ↦ ap (λ p. length p.kinds) (plan_many seals width position price many.0)
+          ∙ (length-append plan.kinds (selected_wires relation)
+          ∙ omega (arith, length_selected relation, sets, long, count))
     ]
 
 pub vickrey_rows : (seals width position price : ℕ) → 1 ≤ seals
     → length (vickrey_plan seals width position price).rows ≡ row_count seals
 vickrey_rows seals width position price some =
+    let winner = position - 1 in
+    let relation = price_selection seals width winner price in
+    let plan = with_prices seals width winner price in
+    let start = length plan.kinds in
+    let long = length_listed (λ k. seals + other winner k) (seals - 1) in
+    let before = rows_before seals width winner price in
+    let counted : (b : Bool) → (seals == 1) ≡ b
+    → (if b then 2 else 5 * seals - 2) ≡ row_count seals =
+    λ b is. sym (ap (λ b. if b then 2 else 5 * seals - 2) is) in
     elim (eqb_tells seals 1) [
-      | inl one ↦ rows_alone seals width position price one.1
-      | inr many ↦ rows_many seals width position price some many.1
+      | inl one ↦ ap (λ p. length p.rows) (plan_alone seals width position price one.0)
+          ∙ (omega (arith, before, one.1) ∙ counted true one.0)
+      | inr many ↦ ap (λ p. length p.rows) (plan_many seals width position price many.0)
+          ∙ (length-append plan.rows (selected_rows relation start)
+          ∙ (omega (
+            arith,
+            before,
+            some,
+            many.1,
+            length_listed (place_row relation start) (length relation.wires),
+          )
+          ∙ counted false many.0))
     ]
 
 -- so has a plan that is this one

@@ -3,8 +3,8 @@ ghost use Rattle.vk_plan.specs.Plans.{PlanValue, Holds, IsPlan, extended};
 ghost use Rattle.vk_range.specs.Others.{other as OtherPlace};
 ghost use Rattle.vk_range.specs.Ranged.{ranges_of};
 ghost use Rattle.vk_vickrey.specs.VickreyPlans.{IsVickreyCase, IsVickreyClaim, vickrey_plan, wire_count, row_count, honest_values, price_selection, vickrey_forms};
-ghost use Rattle.vk_vickrey.specs.VickreyLaws.{vickrey_complete, with_prices};
-ghost use Rattle.vk_vickrey.specs.VickreyRanges.{values_before};
+ghost use Rattle.vk_vickrey.specs.VickreyLaws.{vickrey_complete};
+ghost use Rattle.vk_vickrey.specs.VickreyRanges.{values_before, with_prices};
 ghost use Rattle.vk_vickrey.specs.VickreySelectors.{IsFirstHolder, SelectsAt, selectors_start};
 ghost use Rattle.vk_vickrey.specs.VickreySteps.{circuit_begins, circuit_sound, vickrey_is_plan};
 

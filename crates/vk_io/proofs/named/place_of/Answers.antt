@@ -6,6 +6,7 @@ use Rattle.std.proofs.lemmas.Bool.{true≢false}
 use Rattle.std.proofs.lemmas.Slice.Eq.{bytes_eq-Decides}
 use Rattle.std.proofs.lemmas.List.{get_or_read}
 use Rattle.vk_io.specs.declared.named.NamedFile.{NamedFile}
+use Rattle.vk_io.specs.Named.{entry_of, files_in}
 use Rattle.vk_io.proofs.Places.{get-next, get-end, put_at}
 use Rattle.vk_io.proofs.named.place_of.Goals as goal
 use Rattle.vk_io.proofs.named.place_of.Goals.{Then-eq}
@@ -20,23 +21,26 @@ own_name c d =
     (sym c.eq.ensures ∙ c.if-eq.true))
 
 pub returns-then-eq-clause-found : goal.returns-then-eq-clause-found
+unfolding files_in
 returns-then-eq-clause-found c = λ file same.
-    put_at c.args.files.now c.loop-i.i file c.args.name.now (omega arith) c.loop-i.invariant.others
-    (own_name (goal.at.returns-then-eq-clause-found c).Then-eq) same
+    put_at entry_of c.args.files.now c.loop-i.i file c.args.name.now (omega arith)
+    c.loop-i.invariant.others (own_name (goal.at.returns-then-eq-clause-found c).Then-eq) same
 
 pub returns-then-eq-clause-held : goal.returns-then-eq-clause-held
+unfolding files_in
 returns-then-eq-clause-held c = λ d.
     ap (λ o. unwrap_or o []) (c.loop-i.invariant.rest
-    ∙ get-next c.args.files.now c.loop-i.i c.index-files-i.result c.args.name.now true (omega arith)
-    c.index-files-i.is (sym c.if-eq.true ∙ c.eq.ensures
+    ∙ get-next entry_of c.args.files.now c.loop-i.i c.index-files-i.result c.args.name.now true
+    (omega arith) c.index-files-i.is (sym c.if-eq.true ∙ c.eq.ensures
     ∙ ap (bytes_eq c.args.name.now) c.as_str.ensures.value))
     ∙ ap (λ f. f.bytes.items) (get_or_read c.args.files.now c.loop-i.i _ (omega arith)
     c.index-files-i.is d)
 
 pub loop-i-preserved : goal.loop-i-preserved
+unfolding files_in
 loop-i-preserved c = record {
   rest = c.loop-i.invariant.rest
-      ∙ get-next c.args.files.now c.loop-i.i c.index-files-i.result c.args.name.now false
+      ∙ get-next entry_of c.args.files.now c.loop-i.i c.index-files-i.result c.args.name.now false
       (omega arith) c.index-files-i.is
       (sym c.if-eq.false ∙ c.eq.ensures ∙ ap (bytes_eq c.args.name.now) c.as_str.ensures.value);
   others = λ k d h. below_more
@@ -50,4 +54,5 @@ loop-i-preserved c = record {
 }
 
 pub returns-clause-absent : goal.returns-clause-absent
-returns-clause-absent c = c.loop-i.invariant.rest ∙ get-end _ _ _ c.loop-i-test.false
+unfolding files_in
+returns-clause-absent c = c.loop-i.invariant.rest ∙ get-end entry_of _ _ _ c.loop-i-test.false

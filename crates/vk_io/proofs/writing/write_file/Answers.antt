@@ -7,6 +7,10 @@ use Rattle.vk_io.specs.Writing.{WrittenFile, Writes, no_file, text_of}
 use Rattle.vk_io.proofs.WritingLemmas.{told_chain, told_weaker, piece_added, part_refused, part_unbegun, concat_more, concat_at}
 use Rattle.vk_io.proofs.writing.write_file.Goals as goal
 
+-- the file of that number
+abbrev its : List WrittenFile → ℕ → WrittenFile
+its files file = slice_index_or files file no_file
+
 -- the pieces so far and no more of the next
 stopped : (name : List ℕ) (pieces : List (List ℕ)) (i : ℕ) (e : OutsideErr) (old now : Option Files)
     → i < length pieces
@@ -60,8 +64,7 @@ pub returns-in_err-piece-clause-written : goal.returns-in_err-piece-clause-writt
 returns-in_err-piece-clause-written g c =
     let p = err_from_is_err_and c.from_residual-in_err-piece.result
     c.from_residual-in_err-piece.ensures.1 in
-    let file : WrittenFile = slice_index_or (g.F.WrittenFiles.files c.args.files.now) c.args.file
-    no_file in
+    let file = its (g.F.WrittenFiles.files c.args.files.now) c.args.file in
     rw p.1 (stopped file.name file.pieces c.loop-index.index p.0 _ _ (omega arith)
     c.loop-index.invariant.begun)
 
@@ -69,8 +72,7 @@ pub returns-in_err-append-clause-written : goal.returns-in_err-append-clause-wri
 returns-in_err-append-clause-written g c =
     let p = err_from_is_err_and c.from_residual-in_err-append.result
     c.from_residual-in_err-append.ensures.1 in
-    let file : WrittenFile = slice_index_or (g.F.WrittenFiles.files c.args.files.now) c.args.file
-    no_file in
+    let file = its (g.F.WrittenFiles.files c.args.files.now) c.args.file in
     let old = g.S.Shelf.held c.args.shelf.now in
     let now = g.S.Shelf.held c.loop-index.shelf in
     let new = g.S.Shelf.held c.append.new.self in
@@ -82,8 +84,7 @@ returns-in_err-append-clause-written g c =
 
 pub loop-index-preserved : goal.loop-index-preserved
 loop-index-preserved g c =
-    let file : WrittenFile = slice_index_or (g.F.WrittenFiles.files c.args.files.now) c.args.file
-    no_file in
+    let file = its (g.F.WrittenFiles.files c.args.files.now) c.args.file in
     let old = g.S.Shelf.held c.args.shelf.now in
     let now = g.S.Shelf.held c.loop-index.shelf in
     let new = g.S.Shelf.held c.append.new.self in

@@ -13,6 +13,6 @@ pub returns : goal.returns
 returns c =
     let s = c.args.self.now in
     c.in_ok-values.ensures ∙ ap (ranged_values c.args.bids.now) c.in_ok-relation.ensures
-    ∙ sym (values_ranged s.seals (s.position - 1) s.width
-    (omega (arith, s.in_limits.some_position, s.in_limits.within_seals))
-    s.in_limits.wide.least s.in_limits.wide.most s.price c.args.bids.now c.requires.one_each)
+    ∙ sym (values_ranged s.seals (s.position - 1)
+    (omega (arith, s.in_limits.some_position, s.in_limits.within_seals)) s.width s.price
+    c.args.bids.now c.requires.one_each)

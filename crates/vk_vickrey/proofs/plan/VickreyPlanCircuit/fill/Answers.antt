@@ -1,6 +1,7 @@
 use Rattle.std.proofs.Common.{sym, subst, ◌-◌, ◌≡◌, arith}
 use Rattle.vk_range.specs.Copies.{BeginsWith}
-use Rattle.vk_vickrey.specs.VickreyLaws.{begins_prices, may_be_selected}
+use Rattle.vk_vickrey.specs.VickreyLaws.{begins_prices}
+use Rattle.vk_vickrey.specs.VickreyRanges.{may_be_selected}
 use Rattle.vk_vickrey.specs.VickreySteps.{selection_over, honest_alone, honest_many}
 use Rattle.vk_vickrey.specs.VickreySelectors.{SelectsAt, selectors_start, honest_selector}
 use Rattle.vk_vickrey.specs.VickreyPlans.{honest_values}
