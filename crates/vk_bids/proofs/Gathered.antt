@@ -97,7 +97,8 @@ differing_first number true false first second = refl
 
 -- what holds of each number from that one on, as far as the bits go, holds of these lanes
 pub each_differing : (P : ℕ → Type 0) (number : ℕ) (first second : List Bool)
-    → ((n : ℕ) → number ≤ n → n < number + length first → P n) → All P (differing number first second)
+    → ((n : ℕ) → number ≤ n → n < number + length first → P n)
+    → All P (differing number first second)
 each_differing P number [] second each = All-nil P
 each_differing P number (false ∷ first) [] each = All-nil P
 each_differing P number (true ∷ first) [] each = All-nil P

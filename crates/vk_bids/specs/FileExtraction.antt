@@ -13,7 +13,7 @@ use Rattle.vk_judge.specs.Two.{Ahead}
 use Rattle.vk_judge.specs.Opened.{Coming, FileBase, Front, coming_past, file_coming, opened_in}
 use Rattle.vk_bids.specs.declared.bids.LaneBids.{LaneBids}
 use Rattle.vk_bids.specs.declared.extraction.Extraction.{Extraction}
-use Rattle.vk_bids.specs.declared.extraction.Extraction.TheVariants.{Refused, Same, Bids}
+use Rattle.vk_bids.specs.declared.extraction.Extraction.TheVariants.{Refused, Same}
 use Rattle.vk_bids.specs.declared.file_extraction.OpenedFile.{OpenedFile}
 use Rattle.vk_bids.specs.Extractions.{IsFound, OfBids, comes_to}
 use Rattle.vk_bids.specs.Gathering.{gathered_from}
