@@ -24,10 +24,9 @@ no_first_clash at numbers id clash agree is =
     (All-contains (AgreesAt at) numbers is.number agree is.differs is.wire is.first.within)
 
 -- replies that agree in every lane whose bits differ open no commitment with two values
-pub no_clash : {board first_challenge first_reply second_challenge second_reply : List ℕ}
-    (two : TwoAccepted board first_challenge first_reply second_challenge second_reply)
-    (clash : TwoOpeningsSeen) → All (LaneAgrees two) (differing_in two)
-    → IsExtractionClash two clash → ⊥
+pub no_clash : {board challenge reply other second : List ℕ}
+    (two : TwoAccepted board challenge reply other second) (clash : TwoOpeningsSeen)
+    → All (LaneAgrees two) (differing_in two) → IsExtractionClash two clash → ⊥
 no_clash two clash agree is =
     no_first_clash (two_lane_in two.first two.second) (differing_in two)
     two.first.front.head.auction clash agree is

@@ -8,7 +8,7 @@ use Rattle.std.proofs.lemmas.List.{get_or-map, length-map}
 use Rattle.std.proofs.lemmas.List.Elements.{All-nil, All-cons, All-head, All-tail}
 use Rattle.std.proofs.lemmas.List.Quantifiers.{position-Some}
 use Rattle.std.proofs.lemmas.List.Sums.{fails_before_first}
-use Rattle.std.proofs.lemmas.Option.{get_or_from_slice_get, slice_get-get_or, slice_get_within}
+use Rattle.std.proofs.lemmas.Option.{get_or_from_slice_get, same_Some, slice_get-get_or, slice_get_within}
 use Rattle.vk_residue.specs.Residue.{sum}
 use Rattle.vk_commit.specs.Commitment.{TwoOpeningsSeen}
 use Rattle.vk_commit.specs.declared.place.Opening.{Opening}
@@ -23,6 +23,7 @@ use Rattle.vk_seal.specs.declared.secret.Secret.{Secret}
 use Rattle.vk_seal.proofs.Forms.{secret_is_whole, secret_fault}
 use Rattle.vk_seal.proofs.SealsMatch.{match_exact}
 use Rattle.vk_board.proofs.Winners.{seat_found}
+use Rattle.vk_board.specs.Published.{position_from}
 use Rattle.vk_board.specs.Values.{AreSeals}
 use Rattle.vk_board.specs.declared.board.SealLines.{SealLines}
 use Rattle.vk_board.specs.declared.front.Front.{Front}
@@ -30,13 +31,14 @@ use Rattle.vk_extractor.specs.Confronting.{secret_com, secret_opening}
 use Rattle.vk_judge.specs.Begun.{from_start}
 use Rattle.vk_bids.specs.declared.bids.LaneBids.{LaneBids}
 use Rattle.vk_bids.specs.declared.bids.OpenedBid.{OpenedBid}
-use Rattle.vk_bids.specs.declared.confrontation.Confrontation.TheVariants as malformed
+use Rattle.vk_bids.specs.declared.confrontation.Confrontation.{Confrontation}
+use Rattle.vk_bids.specs.declared.confrontation.Confrontation.TheVariants as comes
 use Rattle.vk_bids.specs.declared.extraction.Extracted.{Extracted}
 use Rattle.vk_bids.specs.declared.extraction.Extraction.TheVariants.{Refused, Same, Clash, Bids}
-use Rattle.vk_bids.specs.Binding.{ClashOr, HeldOrClash, HoldsIn, IsConfrontationOf, IsOfTwo, IsSealAt, IsSealOf, OnlyAcceptedAreConfronted, OthersAreMalformed, SealedAreHeldOrClash, SecretsAreBound, seal_with}
-use Rattle.vk_bids.specs.Confrontation.{board_seal, confronted_bid, confronted_found, confronted_lane, confronted_lanes, confrontation_of, held_by, index_of_seat, matched_by, no_seal, sealed_by, secret_in}
+use Rattle.vk_bids.specs.Binding.{ClashOr, HasMismatch, HeldOrClash, HoldsIn, IsConfrontationOf, IsOfTwo, IsSealAt, IsSealOf, OnlyAcceptedAreConfronted, OthersAreMalformed, SealedAreHeldOrClash, SecretsAreBound, seal_with}
+use Rattle.vk_bids.specs.Confrontation.{board_seal, confronted_bid, confronted_lane, confronted_lanes, confrontation_in, confrontation_of, found_by, held_by, index_of_seat, matched_by, no_seal, sealed_by, secret_in}
 use Rattle.vk_bids.specs.Extraction.{Extraction, extraction_in}
-use Rattle.vk_bids.specs.Headline.{IsFound, IsOf, TwoAccepted}
+use Rattle.vk_bids.specs.Headline.{IsExtraction, IsFound, IsOf, TwoAccepted}
 use Rattle.vk_bids.specs.Outcome.{LaneShows}
 use Rattle.vk_bids.proofs.Halves.{halves_clash, halves_held, halves_sum, none_else, some_else}
 use Rattle.vk_bids.proofs.Confronted.{digests_are, index_within, opens_bid}
@@ -159,42 +161,25 @@ no_seal_has seat seals none k d within =
     past_end (position_or_len passes seals) (length seals) _ refl none in
     eqb-false (get_or seals k d).seat seat (fails_before_first passes seals k d (omega arith))
 
--- a seal with the seat of another is that one
-same_index : (front : Front) (seat index other : ℕ) → AreSeals front.head front.seals
-    → index < length front.seals → other < length front.seals
-    → (get_or front.seals index no_seal).seat ≡ seat
-    → (get_or front.seals other no_seal).seat ≡ seat → index ≡ other
-same_index front seat index other are within within_other is is_other =
-    let seat_of : SealLines → ℕ = λ seal. seal.seat in
-    let first = seat_found front.head.lanes seat 0 index [] front.seals are.each within
-    (get_or-map seat_of front.seals index no_seal 0 within ∙ is) in
-    let second = seat_found front.head.lanes seat 0 other [] front.seals are.each within_other
-    (get_or-map seat_of front.seals other no_seal 0 within_other ∙ is_other) in
+-- where the board's seal with the secret's seat is found
+place_of : (front : Front) (secret : Secret) (index : ℕ) → AreSeals front.head front.seals
+    → IsSealAt front secret index → position_from secret.seat 0 front.seals ≡ Some (0 + index)
+place_of front secret index are stands =
+    let within = slice_get_within front.seals index stands.lines stands.on_board in
+    let lines : get_or front.seals index no_seal ≡ stands.lines =
+    get_or_from_slice_get front.seals index stands.lines no_seal stands.on_board in
+    seat_found front.head.lanes secret.seat 0 index [] front.seals are.each within
+    (get_or-map (λ (seal : SealLines). seal.seat) front.seals index no_seal 0 within
+    ∙ (ap (λ (seal : SealLines). seal.seat) lines ∙ stands.seat))
+
+-- a board has one seal with that seat
+same_index : (front : Front) (secret : Secret) (index other : ℕ) → AreSeals front.head front.seals
+    → IsSealAt front secret index → IsSealAt front secret other → index ≡ other
+same_index front secret index other are here there =
+    let first = place_of front secret index are here in
+    let second = place_of front secret other are there in
     let same : 0 + index ≡ 0 + other = cc in
     omega (arith, same)
-
--- so the seal at that index is the one that is found
-seal_at : (front : Front) (secret : Secret) (index : ℕ) (at : Option ℕ)
-    → AreSeals front.head front.seals → IsSealAt front secret index
-    → index_of_seat secret.seat front.seals ≡ at
-    → index_of_seat secret.seat front.seals ≡ Some index
-seal_at front secret index None are stands none =
-    let within = slice_get_within front.seals index stands.lines stands.on_board in
-    let lines : get_or front.seals index no_seal ≡ stands.lines =
-    get_or_from_slice_get front.seals index stands.lines no_seal stands.on_board in
-    absurd (no_seal_has secret.seat front.seals none index no_seal within
-    (ap (λ (l : SealLines). l.seat) lines ∙ stands.seat))
-seal_at front secret index (Some other) are stands found =
-    let within = slice_get_within front.seals index stands.lines stands.on_board in
-    let lines : get_or front.seals index no_seal ≡ stands.lines =
-    get_or_from_slice_get front.seals index stands.lines no_seal stands.on_board in
-    let there = position-Some (λ (seal : SealLines). seal.seat == secret.seat) front.seals other
-    no_seal found in
-    let same : other ≡ index =
-    same_index front secret.seat other index are there.0 within
-    (eqb-true (get_or front.seals other no_seal).seat secret.seat there.1)
-    (ap (λ (l : SealLines). l.seat) lines ∙ stands.seat) in
-    found ∙ ap (λ n. Some n) same
 
 same_digest : (digest : List ℕ) (made kept : WireCom) (half : Bool)
     → digest ≡ entry_digest made half → kept ≡ made → digest ≡ entry_digest kept half
@@ -274,137 +259,92 @@ module _ (secret : Secret) (found : Extracted) (is_secret : IsSecret secret) (sh
   by_index (Some index) at = by_match index at
       (match_of secret (board_seal found.front.head found.front.seals index)) refl
 
-  sealed_lanes : (index : ℕ) → index_of_seat secret.seat found.front.seals ≡ Some index
-      → board_seal found.front.head found.front.seals index ≡ seal_of secret
-      → (two : Option TwoOpeningsSeen) → confronted_lanes secret index found.lanes ≡ two
-      → HeldOrClash secret index found (held_by secret.seat two)
-  sealed_lanes index at same None is =
-      inl (
-        refl,
-        held_in_all found.front secret index is_secret
-            (index_within secret.seat index found.front.seals at) same found.lanes shows is,
-      )
-  sealed_lanes index at same (Some clash) is =
-      inr (clash, refl, by_lanes index at same (Some clash) is)
+-- ---- where the board's seal at an index is the secret's
 
-  sealed_match : (index : ℕ) → index_of_seat secret.seat found.front.seals ≡ Some index
-      → board_seal found.front.head found.front.seals index ≡ seal_of secret
-      → (answer : Result Unit Mismatch)
-      → match_of secret (board_seal found.front.head found.front.seals index) ≡ answer
-      → HeldOrClash secret index found (matched_by secret index found.lanes answer)
-  sealed_match index at same (Err mismatch) is =
-      absurd (not_both (match_of secret (board_seal found.front.head found.front.seals index))
-      mismatch is ((match_exact secret (board_seal found.front.head found.front.seals index)).1
-      same))
-  sealed_match index at same (Ok done) is =
-      sealed_lanes index at same (confronted_lanes secret index found.lanes) refl
+module _ (secret : Secret) (found : Extracted) (index : ℕ) (are : AreSeals found.front.head found.front.seals) (seal : IsSealOf found.front secret index) where
+  no_mismatch : (mismatch : Mismatch) → HasMismatch found.front secret mismatch → ⊥
+  no_mismatch mismatch has =
+      let stands = seal.stands in
+      let at = ap (λ n. slice_get found.front.seals n)
+      (same_index found.front secret has.index index are has.stands stands) in
+      let lines = same_Some has.stands.lines stands.lines
+      (sym has.stands.on_board ∙ (at ∙ stands.on_board)) in
+      not_both (match_of secret (seal_with found.front has.stands.lines)) mismatch has.differs
+      ((match_exact secret (seal_with found.front has.stands.lines)).1
+      (ap (seal_with found.front) lines ∙ seal.matches))
 
-  sealed : (index : ℕ) → AreSeals found.front.head found.front.seals
-      → IsSealOf found.front secret index
-      → HeldOrClash secret index found (confronted_found secret found)
-  sealed index are seal =
-      let at = seal_at found.front secret index (index_of_seat secret.seat found.front.seals) are
-      seal.stands refl in
-      let lines : get_or found.front.seals index no_seal ≡ seal.stands.lines =
-      get_or_from_slice_get found.front.seals index seal.stands.lines no_seal
-      seal.stands.on_board in
-      let same : board_seal found.front.head found.front.seals index ≡ seal_of secret =
-      ap (λ l. seal_with found.front l) lines ∙ seal.matches in
-      let P : Option ℕ → Type 0 = λ at. HeldOrClash secret index found (sealed_by secret found at)
-      in
-      subst P (sym at) (sealed_match index at same
-      (match_of secret (board_seal found.front.head found.front.seals index)) refl)
+  sealed : (answer : Confrontation) → IsConfrontationOf secret found answer
+      → HeldOrClash secret index found answer
+  sealed (comes.Refused second verdict) is = absurd is
+  sealed comes.Same is = absurd is
+  sealed (comes.Malformed line) is = absurd is
+  sealed (comes.NoSeal seat) is =
+      let stands = seal.stands in
+      let within = slice_get_within found.front.seals index stands.lines stands.on_board in
+      let lines : get_or found.front.seals index no_seal ≡ stands.lines =
+      get_or_from_slice_get found.front.seals index stands.lines no_seal stands.on_board in
+      absurd (is.1 index no_seal within (ap (λ (l : SealLines). l.seat) lines ∙ stands.seat))
+  sealed (comes.Mismatch mismatch) is = absurd (no_mismatch mismatch is)
+  sealed (comes.Clash clash) is = inr (clash, refl, is)
+  sealed (comes.Held seat) is =
+      let same = same_index found.front secret is.1.index index are is.1.seal.stands seal.stands in
+      inl (ap comes.Held is.0, subst (λ n. All (HoldsIn secret n) found.lanes) same is.1.lanes)
 
 -- ---- the laws
 
-module _ (board first_challenge first_reply second_challenge second_reply : List ℕ) (two : TwoAccepted board first_challenge first_reply second_challenge second_reply) where
-  of_secret : (secret : Secret) → IsSecret secret → (extraction : Extraction) → IsOf two extraction
-      → ClashOr two (λ found. IsConfrontationOf secret found
-      (confrontation_of extraction (Ok secret))) (confrontation_of extraction (Ok secret))
-  of_secret secret is_secret (Refused second verdict) is = absurd is
-  of_secret secret is_secret Same is = absurd is
-  of_secret secret is_secret (Clash clash) is = inl (clash, is, refl)
-  of_secret secret is_secret (Bids found) is =
-      let P : Front → Type 0 = λ front. All (LaneShows front) found.lanes in
-      inr (
-        found,
-        is,
-        by_index secret found is_secret (subst P (sym is.front) is.outcomes)
-            (index_of_seat secret.seat found.front.seals) refl,
-      )
+module _ {board challenge reply other second : List ℕ} (two : TwoAccepted board challenge reply other second)
+    (Says : Extracted → Confrontation → Type 0) (read : Result Secret ℕ)
+    (says : (found : Extracted) → IsExtraction two found → Says found (found_by found read)) where
+  -- the replies clash, or this is said of their bids
+  of_two : (extraction : Extraction) → IsOf two extraction
+      → ClashOr two (λ found. Says found (confrontation_of extraction read))
+      (confrontation_of extraction read)
+  of_two (Refused of_second verdict) is = absurd is
+  of_two Same is = absurd is
+  of_two (Clash clash) is = inl (clash, is, refl)
+  of_two (Bids found) is = inr (found, is, says found is)
 
-  of_sealed : (secret : Secret) (index : ℕ) → IsSecret secret
-      → IsSealOf (two.first.front) secret index → (extraction : Extraction) → IsOf two extraction
-      → ClashOr two (λ found. HeldOrClash secret index found
-      (confrontation_of extraction (Ok secret))) (confrontation_of extraction (Ok secret))
-  of_sealed secret index is_secret seal (Refused second verdict) is = absurd is
-  of_sealed secret index is_secret seal Same is = absurd is
-  of_sealed secret index is_secret seal (Clash clash) is = inl (clash, is, refl)
-  of_sealed secret index is_secret seal (Bids found) is =
-      let P : Front → Type 0 = λ front. All (LaneShows front) found.lanes in
-      let A : Front → Type 0 = λ front. AreSeals front.head front.seals in
-      let S : Front → Type 0 = λ front. IsSealOf front secret index in
-      inr (
-        found,
-        is,
-        sealed secret found is_secret (subst P (sym is.front) is.outcomes) index
-            (subst A (sym is.front) two.first.right.seals) (subst S (sym is.front) seal),
-      )
-
-  of_other : (line : ℕ) (extraction : Extraction) → IsOf two extraction
-      → ClashOr two (λ found. confrontation_of extraction (Err line) ≡ malformed.Malformed line)
-      (confrontation_of extraction (Err line))
-  of_other line (Refused second verdict) is = absurd is
-  of_other line Same is = absurd is
-  of_other line (Clash clash) is = inl (clash, is, refl)
-  of_other line (Bids found) is = inr (found, is, refl)
+  -- where this is read of the secret's file
+  of_file : (file : List ℕ) → secret_in (secret_at (from_start file)) ≡ read
+      → let answer = confrontation_in board challenge reply other second file in
+      ClashOr two (λ found. Says found answer) answer
+  of_file file is =
+      let extraction = extraction_in board challenge reply other second in
+      let P : Result Secret ℕ → Type 0 =
+      λ r. ClashOr two (λ found. Says found (confrontation_of extraction r))
+      (confrontation_of extraction r) in
+      subst P (sym is) (of_two extraction
+      (accepted_are_extracted board challenge reply other second two))
 
 pub secrets_are_bound : SecretsAreBound
-secrets_are_bound board first_challenge first_reply second_challenge second_reply file two secret
-    is_secret is =
-    let extraction = extraction_in board first_challenge first_reply second_challenge second_reply
-    in
-    let read = secret_is_whole.found (from_start file) secret is_secret is in
-    let reads : secret_in (secret_at (from_start file)) ≡ Ok secret = ap secret_in read.1 in
-    let P : Result Secret ℕ → Type 0 =
-    λ r. ClashOr two (λ found. IsConfrontationOf secret found (confrontation_of extraction r))
-    (confrontation_of extraction r) in
-    subst P (sym reads) (of_secret board first_challenge first_reply second_challenge second_reply
-    two secret is_secret extraction
-    (accepted_are_extracted board first_challenge first_reply second_challenge second_reply two))
+secrets_are_bound board challenge reply other second file two secret is_secret is =
+    of_file two (IsConfrontationOf secret) (Ok secret)
+    (λ found of. let P : Front → Type 0 = λ front. All (LaneShows front) found.lanes in
+    by_index secret found is_secret (subst P (sym of.front) of.outcomes)
+    (index_of_seat secret.seat found.front.seals) refl)
+    file (ap secret_in (secret_is_whole.found (from_start file) secret is_secret is).1)
 
 pub sealed_are_held_or_clash : SealedAreHeldOrClash
-sealed_are_held_or_clash board first_challenge first_reply second_challenge second_reply file two
-    secret index is_secret is seal =
-    let extraction = extraction_in board first_challenge first_reply second_challenge second_reply
-    in
-    let read = secret_is_whole.found (from_start file) secret is_secret is in
-    let reads : secret_in (secret_at (from_start file)) ≡ Ok secret = ap secret_in read.1 in
-    let P : Result Secret ℕ → Type 0 =
-    λ r. ClashOr two (λ found. HeldOrClash secret index found (confrontation_of extraction r))
-    (confrontation_of extraction r) in
-    subst P (sym reads) (of_sealed board first_challenge first_reply second_challenge second_reply
-    two secret index is_secret seal extraction
-    (accepted_are_extracted board first_challenge first_reply second_challenge second_reply two))
+sealed_are_held_or_clash board challenge reply other second file two secret index is_secret is
+    seal =
+    let answer = confrontation_in board challenge reply other second file in
+    let P : Front → Type 0 =
+    λ front. AreSeals front.head front.seals × IsSealOf front secret index in
+    elim (secrets_are_bound board challenge reply other second file two secret is_secret is) [
+      | inl clash ↦ inl clash
+      | inr of ↦
+          let stands = subst P (sym of.1.front) (two.first.right.seals, seal) in
+          inr (of.0, of.1, sealed secret of.0 index stands.0 stands.1 answer of.2)
+    ]
 
 err_is : {A : Type 0} (read : Result A ℕ) (line : ℕ) → result_err read ≡ Some line → read ≡ Err line
 err_is (Ok x) line is = cc
 err_is (Err other) line is = cc
 
 pub others_are_malformed : OthersAreMalformed
-others_are_malformed board first_challenge first_reply second_challenge second_reply file two line
-    fault =
-    let extraction = extraction_in board first_challenge first_reply second_challenge second_reply
-    in
-    let reads : secret_in (secret_at (from_start file)) ≡ Err line =
-    ap secret_in (err_is (secret_at (from_start file)) line (sym (secret_fault file) ∙ fault))
-    in
-    let P : Result Secret ℕ → Type 0 =
-    λ r. ClashOr two (λ found. confrontation_of extraction r ≡ malformed.Malformed line)
-    (confrontation_of extraction r) in
-    subst P (sym reads) (of_other board first_challenge first_reply second_challenge second_reply
-    two line extraction
-    (accepted_are_extracted board first_challenge first_reply second_challenge second_reply two))
+others_are_malformed board challenge reply other second file two line fault =
+    of_file two (λ found answer. answer ≡ comes.Malformed line) (Err line) (λ found of. refl) file
+    (ap secret_in (err_is (secret_at (from_start file)) line (sym (secret_fault file) ∙ fault)))
 
 is_found : (extraction : Extraction) (secret : Result Secret ℕ)
     → IsOfTwo (confrontation_of extraction secret) → IsFound extraction
@@ -414,8 +354,7 @@ is_found (Clash clash) secret is = tt
 is_found (Bids found) secret is = tt
 
 pub only_accepted_are_confronted : OnlyAcceptedAreConfronted
-only_accepted_are_confronted board first_challenge first_reply second_challenge second_reply file
-    is =
-    only_accepted_are_extracted board first_challenge first_reply second_challenge second_reply
-    (is_found (extraction_in board first_challenge first_reply second_challenge second_reply)
+only_accepted_are_confronted board challenge reply other second file is =
+    only_accepted_are_extracted board challenge reply other second
+    (is_found (extraction_in board challenge reply other second)
     (secret_in (secret_at (from_start file))) is)

@@ -67,8 +67,7 @@ board_shows base found extraction right opens is =
 
 -- ---- accepted replies
 
-module _ {board first_challenge first_reply second_challenge second_reply : List ℕ}
-    (two : TwoAccepted board first_challenge first_reply second_challenge second_reply) where
+module _ {board challenge reply other second : List ℕ} (two : TwoAccepted board challenge reply other second) where
   pub is_of : (found : FileExtraction PlacedHead BoardRefusal) → IsOfFile board_form two found
       → IsOf two (as_extraction found)
   is_of (Bids found) is =
@@ -89,12 +88,9 @@ module _ {board first_challenge first_reply second_challenge second_reply : List
   is_of (Refused of_second refusal) is = absurd is
 
 pub accepted_are_extracted : AcceptedAreExtracted
-accepted_are_extracted board first_challenge first_reply second_challenge second_reply two =
-    is_of two
-    (file_extraction_in board_front_at board first_challenge first_reply second_challenge
-    second_reply)
-    (accepted_open board_form is_form board first_challenge first_reply second_challenge
-    second_reply two)
+accepted_are_extracted board challenge reply other second two =
+    is_of two (file_extraction_in board_front_at board challenge reply other second)
+    (accepted_open board_form is_form board challenge reply other second two)
 
 is_found : (found : FileExtraction PlacedHead BoardRefusal) → IsFound (as_extraction found)
     → IsFound found
@@ -104,11 +100,9 @@ is_found Same is = is
 is_found (Refused of_second refusal) is = is
 
 pub only_accepted_are_extracted : OnlyAcceptedAreExtracted
-only_accepted_are_extracted board first_challenge first_reply second_challenge second_reply found =
-    only_accepted_open_file board_form is_form board first_challenge first_reply second_challenge
-    second_reply
-    (is_found (file_extraction_in board_front_at board first_challenge first_reply second_challenge
-    second_reply) found)
+only_accepted_are_extracted board challenge reply other second found =
+    only_accepted_open_file board_form is_form board challenge reply other second
+    (is_found (file_extraction_in board_front_at board challenge reply other second) found)
 
 is_same : (found : FileExtraction PlacedHead BoardRefusal) → as_extraction found ≡ Same
     → found ≡ Same
@@ -118,9 +112,7 @@ is_same Same same = refl
 is_same (Refused of_second refusal) same = cc
 
 pub same_is_found : SameIsFound
-same_is_found board first_challenge first_reply second_challenge second_reply =
-    let found = file_extraction_in board_front_at board first_challenge first_reply
-    second_challenge second_reply in
-    let exactly = same_is_found_of_file board_form is_form board first_challenge first_reply
-    second_challenge second_reply in
+same_is_found board challenge reply other second =
+    let found = file_extraction_in board_front_at board challenge reply other second in
+    let exactly = same_is_found_of_file board_form is_form board challenge reply other second in
     (λ same. exactly.0 (is_same found same), λ both. ap as_extraction (exactly.1 both))

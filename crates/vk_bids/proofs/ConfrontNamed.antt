@@ -43,37 +43,35 @@ extracted (Err refused) extraction is = cc
 
 -- ---- all six
 
-module _ (files : Files) (board first_challenge first_reply second_challenge second_reply secret : List ℕ) where
-  held_confronted : (held : HeldFiles files board first_challenge first_reply second_challenge
-      second_reply) (file : List ℕ) → IsHeldFile files secret file
-      → confrontation_on files board first_challenge first_reply second_challenge second_reply
-      secret ≡ Ok (confrontation_of_held held file)
+module _ (files : Files) (board challenge reply other second secret : List ℕ) where
+  held_confronted : (held : HeldFiles files board challenge reply other second) (file : List ℕ)
+      → IsHeldFile files secret file
+      → confrontation_on files board challenge reply other second secret
+      ≡ Ok (confrontation_of_held held file)
+  unfolding confrontation_on
   held_confronted held file is =
       let extraction = extraction_of_held held in
-      confronted files board first_challenge first_reply second_challenge second_reply secret
-      extraction (from_start file) (secret_in (secret_at (from_start file)))
-      (confrontation_of_held held file)
-      ((files_are_extracted files board first_challenge first_reply second_challenge second_reply
-      extraction).1 (record { held = held; is = refl }))
+      confronted (extraction_on files board challenge reply other second)
+      (secret_begun (get files secret)) extraction (from_start file)
+      (secret_in (secret_at (from_start file))) (confrontation_of_held held file)
+      ((files_are_extracted files board challenge reply other second extraction).1
+      (record { held = held; is = refl }))
       (secret_found files secret file is) refl refl
 
   abbrev secret_then : Extraction → Rest → Result Confrontation ConfrontErr
   secret_then extraction rest = Ok (confrontation_of extraction (secret_in (secret_at rest)))
 
   named_confronts : (confrontation : Confrontation)
-      → confrontation_on files board first_challenge first_reply second_challenge second_reply
-      secret ≡ Ok confrontation
-      → ConfrontationOf files board first_challenge first_reply second_challenge second_reply secret
-      confrontation
+      → confrontation_on files board challenge reply other second secret ≡ Ok confrontation
+      → ConfrontationOf files board challenge reply other second secret confrontation
   unfolding confrontation_on
   named_confronts confrontation ok =
-      let answer = extraction_on files board first_challenge first_reply second_challenge
-      second_reply in
+      let answer = extraction_on files board challenge reply other second in
       let first = bind_ok (of_extraction answer)
       (λ extraction. secret_begun (get files secret) >>= secret_then extraction) confrontation
       ok in
-      let held = ((files_are_extracted files board first_challenge first_reply second_challenge
-      second_reply first.0).0 (extracted answer first.0 first.1)).held in
+      let held = ((files_are_extracted files board challenge reply other second first.0).0
+      (extracted answer first.0 first.1)).held in
       let begun = secret_held files secret (secret_then first.0) confrontation (get files secret)
       refl first.2 in
       record {
@@ -85,10 +83,8 @@ module _ (files : Files) (board first_challenge first_reply second_challenge sec
       }
 
 pub files_are_confronted : FilesAreConfronted
-files_are_confronted files board first_challenge first_reply second_challenge second_reply secret
-    confrontation = (
-      named_confronts files board first_challenge first_reply second_challenge second_reply secret
-          confrontation,
-      λ comes. held_confronted files board first_challenge first_reply second_challenge second_reply
-          secret comes.held comes.secret_bytes comes.secret_is ∙ ap (λ c. Ok c) (sym comes.is),
-    )
+files_are_confronted files board challenge reply other second secret confrontation = (
+  named_confronts files board challenge reply other second secret confrontation,
+  λ comes. held_confronted files board challenge reply other second secret comes.held
+      comes.secret_bytes comes.secret_is ∙ ap (λ c. Ok c) (sym comes.is),
+)

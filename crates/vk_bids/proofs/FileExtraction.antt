@@ -1,48 +1,11 @@
--- What two replies to a file come to, from what they come to behind its front.
-use Rattle.std.proofs.Common.{◌≡◌, List, [], Option, Some, None, IfSome, IsSomeAnd, option_map, Result, Ok, Err, refl, ap, ◌∙◌}
-use Rattle.vk_commit.specs.Commitment.{TwoOpeningsSeen}
-use Rattle.vk_judge.specs.declared.answers.Fault.{Fault}
+-- What is opened of a file is opened of what is known of it.
+use Rattle.std.proofs.Common.{◌≡◌, Option, Some, None, IfSome, IsSomeAnd, Result, Ok, ap, ◌∙◌}
 use Rattle.vk_judge.specs.declared.opened.Opened.{Opened}
 use Rattle.vk_judge.specs.declared.opened.Refusal.{Refusal}
-use Rattle.vk_judge.specs.declared.stage.Base.{Base}
-use Rattle.vk_judge.specs.declared.stage.Finding.{Finding}
-use Rattle.vk_judge.specs.declared.stage.Finding.TheVariants as ends
-use Rattle.vk_judge.specs.declared.stage.TwoLane.{TwoLane}
-use Rattle.vk_judge.specs.Two.{Ahead}
-use Rattle.vk_judge.specs.Opened.{FileBase, as_found, coming_with, opened_in, with_head}
-use Rattle.vk_bids.specs.declared.bids.LaneBids.{LaneBids}
+use Rattle.vk_judge.specs.Opened.{FileBase, opened_in}
 use Rattle.vk_bids.specs.declared.extraction.Extraction.TheVariants.{Refused, Same, Clash, Bids}
-use Rattle.vk_bids.specs.Extractions.{OfBids, found_by, gathered_after, given_by}
-use Rattle.vk_bids.specs.FileExtraction.{FileExtraction, OpensBase, OpensFile, OpensValuesOf, extraction_of, extraction_with, opened_by}
-use Rattle.vk_bids.specs.Gathering.{gathered_from}
-use Rattle.vk_bids.specs.LaneExtraction.{lane_extraction, opened_of}
-
-module _ {H : Type 0} (R : Type 0) (head : H) where
-  with_its_head : (base : Base) (gathered : Result (List LaneBids) TwoOpeningsSeen)
-      → ◌≡◌ {A = FileExtraction H R} (given_by (opened_by (with_head head base)) gathered)
-      (extraction_with head (given_by (opened_of base.statement) gathered))
-  with_its_head base (Ok lanes) = refl
-  with_its_head base (Err two) = refl
-
-  by_finding : (base : Option Base) (lanes : List TwoLane) (finding : Finding Fault)
-      → ◌≡◌ {A = FileExtraction H R}
-      (found_by opened_by (option_map (with_head head) base) (as_found finding)
-      (gathered_after (λ (known : FileBase H). known.base.statement)
-      (option_map (with_head head) base) lanes))
-      (extraction_with head (found_by (λ (base : Base). opened_of base.statement) base finding
-      (gathered_after (λ (base : Base). base.statement) base lanes)))
-  by_finding base lanes (ends.Refused second fault) = refl
-  by_finding base lanes ends.Same = refl
-  by_finding None lanes ends.Ready = refl
-  by_finding (Some base) lanes ends.Ready =
-      with_its_head base (gathered_from base.statement (Ok []) 1 lanes)
-
-  pub opened_with : (base : Option Base) (ahead : Ahead Fault)
-      → extraction_of {H = H} {R = R} (coming_with head base ahead)
-      ≡ extraction_with head (lane_extraction base ahead)
-  opened_with base ahead = by_finding base ahead.lanes ahead.finding
-
--- ---- what is opened
+use Rattle.vk_bids.specs.Extractions.{OfBids}
+use Rattle.vk_bids.specs.FileExtraction.{FileExtraction, OpensBase, OpensFile, OpensValuesOf}
 
 -- of the file that is known
 pub opens_base : {H R : Type 0} (base : Option (FileBase H)) (file : Opened H)

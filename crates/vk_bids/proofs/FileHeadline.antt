@@ -1,27 +1,30 @@
 -- Two replies to a file of any form that are accepted for different challenges give values for
 -- which its circuit holds, or a clash. Only such replies do.
-use Rattle.std.proofs.Common.{◌≡◌, ℕ, Bool, true, false, List, Option, Some, None, IsSome, Result, Ok, Err, refl, sym, ap, subst, ◌∙◌}
+use Rattle.std.proofs.Common.{◌≡◌, ℕ, Bool, true, false, List, [], Option, Some, None, IsSome, option_map, Result, Ok, Err, refl, sym, ap, subst, ◌∙◌}
 use Rattle.std.specs.Prelude.{◌≢◌}
 use Rattle.vk_commit.specs.Commitment.{TwoOpeningsSeen}
 use Rattle.vk_lines.specs.Lines.{Rest}
+use Rattle.vk_judge.specs.declared.answers.Fault.{Fault}
 use Rattle.vk_judge.specs.declared.opened.Opened.{Opened}
 use Rattle.vk_judge.specs.declared.opened.Refusal.{Refusal}
+use Rattle.vk_judge.specs.declared.stage.Base.{Base}
 use Rattle.vk_judge.specs.declared.stage.Finding.{Finding}
 use Rattle.vk_judge.specs.declared.stage.Finding.TheVariants as ends
+use Rattle.vk_judge.specs.declared.stage.TwoLane.{TwoLane}
 use Rattle.vk_judge.specs.Acceptance.{AcceptsBehind}
 use Rattle.vk_judge.specs.Begun.{from_start}
 use Rattle.vk_judge.specs.FileForms.{Accepts, Form, IsForm, bits_of}
-use Rattle.vk_judge.specs.Opened.{Coming, FileBase, coming_in}
+use Rattle.vk_judge.specs.Opened.{Coming, FileBase, as_found, coming_in, with_head}
 use Rattle.vk_judge.specs.Two.{BothAreAccepted, accepted_of, ahead_behind, base_behind, base_in, same_bits}
 use Rattle.vk_judge.proofs.FileForms.{accepted_front, accepted_give, on_one, only_accepted_give}
 use Rattle.vk_bids.specs.declared.bids.LaneBids.{LaneBids}
-use Rattle.vk_bids.specs.declared.extraction.Extraction.TheVariants.{Refused, Same, Clash, Bids}
+use Rattle.vk_bids.specs.declared.extraction.Extraction.TheVariants.{Refused, Same}
 use Rattle.vk_bids.specs.Extractions.{IsFound, found_by, gathered_after, given_by}
-use Rattle.vk_bids.specs.FileExtraction.{FileExtraction, IsFoundBy, extraction_past, extraction_with, file_extraction_in, opened_by}
+use Rattle.vk_bids.specs.FileExtraction.{FileExtraction, IsFoundBy, extraction_past, file_extraction_in, opened_by}
 use Rattle.vk_bids.specs.FileHeadline.{AcceptedOpen, ExtractsByFinding, IsOfFile, OnlyAcceptedOpenFile, SameAccepted, SameIsFoundOfFile, TwoAccepted}
-use Rattle.vk_bids.specs.LaneExtraction.{LaneExtraction, lane_extraction_behind}
+use Rattle.vk_bids.specs.Gathering.{gathered_from}
+use Rattle.vk_bids.specs.LaneExtraction.{opened_of}
 use Rattle.vk_bids.specs.OpenedBehind.{IsOfBehind, TwoAcceptedBehind}
-use Rattle.vk_bids.proofs.FileExtraction.{opened_with}
 use Rattle.vk_bids.proofs.Headlines.{accepted_behind_open, accepted_same, bits_differ, found_ready, of_test, same_bits_are}
 
 module _ {F H R : Type 0} (form : Form F H R) (is : IsForm form) (file challenge reply other second : List ℕ) where
@@ -43,55 +46,64 @@ module _ {F H R : Type 0} (form : Form F H R) (is : IsForm form) (file challenge
     Opens two = (differ : bits_of one ≢ bits_of two)
         → IsOfFile form (record { first = one; second = two; differ = differ }) extraction
 
-    of_file : (right : form.fronts.IsRight one.front)
+    module _ (right : form.fronts.IsRight one.front)
         (behind : AcceptsBehind (form.fronts.statement one.front) (form.fronts.text one.front) file
         other second)
-        (differ : one.behind.challenge.bits ≢ behind.challenge.bits) (found : LaneExtraction)
-        → IsOfBehind (record { first = one.behind; second = behind; differ = differ }) found
-        → IsOfFile form (record {
-          first = one;
-          second = record { front = one.front; right = right; behind = behind };
-          differ = differ;
-        }) (extraction_with {R = R} (form.head one.front) found)
-    of_file right behind differ (Bids opened) is = record {
-      head = refl;
-      opened = record {
-        statement = is.statement;
-        numbers = is.numbers;
-        shown = is.shown;
-        opens = is.opens;
-        agree = is.agree;
-      };
-    }
-    of_file right behind differ (Clash clash) is = is
-    of_file right behind differ Same is = absurd is
-    of_file right behind differ (Refused of_second fault) is = absurd is
+        (differ : one.behind.challenge.bits ≢ behind.challenge.bits) where
+      abbrev both : TwoAcceptedBehind (form.fronts.statement one.front)
+          (form.fronts.text one.front) file challenge reply other second
+      both = record { first = one.behind; second = behind; differ = differ }
 
-    opens_behind : (right : form.fronts.IsRight one.front)
-        (behind : AcceptsBehind (form.fronts.statement one.front) (form.fronts.text one.front) file
-        other second)
-        → Opens (record { front = one.front; right = right; behind = behind })
-    opens_behind right behind differ =
-        let s = form.fronts.statement one.front in
-        let two : TwoAccepted form.fronts file challenge reply other second = record {
-          first = one;
-          second = record { front = one.front; right = right; behind = behind };
-          differ = differ;
-        } in
-        let both : TwoAcceptedBehind s (form.fronts.text one.front) file challenge reply other
-        second = record { first = one.behind; second = behind; differ = differ } in
-        let read = accepted_front form is file one in
-        let c = from_start challenge in
-        let r = from_start reply in
-        let o = from_start other in
-        let t = from_start second in
-        let found = lane_extraction_behind s read.after c r o t in
-        let open_values = accepted_behind_open s (is.statement one.front one.right)
-        (form.fronts.text one.front) file challenge reply other second read.after read.text both in
-        subst (IsOfFile form two)
-        (sym (ap past read.read ∙ opened_with R (form.head one.front)
-        (base_in (base_behind s read.after c r o t)) (ahead_behind s read.after c r o t)))
-        (of_file right behind differ found open_values)
+      abbrev two : TwoAccepted form.fronts file challenge reply other second
+      two = record {
+        first = one;
+        second = record { front = one.front; right = right; behind = behind };
+        differ = differ;
+      }
+
+      abbrev headed : Base → FileBase H
+      headed = with_head (form.head one.front)
+
+      of_gathered : (base : Base) (gathered : Result (List LaneBids) TwoOpeningsSeen)
+          → IsOfBehind both (given_by (opened_of base.statement) gathered)
+          → IsOfFile form two (given_by (opened_by (headed base)) gathered)
+      of_gathered base (Ok lanes) is = record {
+        head = refl;
+        opened = record {
+          statement = is.statement;
+          numbers = is.numbers;
+          shown = is.shown;
+          opens = is.opens;
+          agree = is.agree;
+        };
+      }
+      of_gathered base (Err clash) is = is
+
+      of_finding : (base : Option Base) (lanes : List TwoLane) (finding : Finding Fault)
+          → IsOfBehind both (found_by (λ (base : Base). opened_of base.statement) base finding
+          (gathered_after (λ (base : Base). base.statement) base lanes))
+          → IsOfFile form two (found_by opened_by (option_map headed base) (as_found finding)
+          (gathered_after (λ (known : FileBase H). known.base.statement)
+          (option_map headed base) lanes))
+      of_finding base lanes (ends.Refused of_second fault) is = absurd is
+      of_finding base lanes ends.Same is = absurd is
+      of_finding None lanes ends.Ready is = absurd is
+      of_finding (Some base) lanes ends.Ready is =
+          of_gathered base (gathered_from base.statement (Ok []) 1 lanes) is
+
+      opens_behind : IsOfFile form two extraction
+      opens_behind =
+          let s = form.fronts.statement one.front in
+          let read = accepted_front form is file one in
+          let c = from_start challenge in
+          let r = from_start reply in
+          let o = from_start other in
+          let t = from_start second in
+          let ahead = ahead_behind s read.after c r o t in
+          subst (IsOfFile form two) (sym (ap past read.read))
+          (of_finding (base_in (base_behind s read.after c r o t)) ahead.lanes ahead.finding
+          (accepted_behind_open s (is.statement one.front one.right) (form.fronts.text one.front)
+          file challenge reply other second read.after read.text both))
 
   pub opens_two : (two : TwoAccepted form.fronts file challenge reply other second)
       → IsOfFile form two extraction

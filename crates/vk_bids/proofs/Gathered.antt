@@ -24,7 +24,7 @@ use Rattle.vk_bids.specs.Bids.{opened_bids}
 use Rattle.vk_bids.specs.Gathering.{bids_by, lane_by, lane_found, shown_for, lane_shown, added, gathered_from}
 use Rattle.vk_bids.specs.Headline.{differing}
 use Rattle.vk_bids.specs.Opening.{IsCaseOf, AreShownIn, LaneOpens}
-use Rattle.vk_bids.proofs.Showing.{case_opens, case_shown}
+use Rattle.vk_bids.proofs.Showing.{case_gives}
 
 abbrev pub number_of : LaneBids → ℕ
 number_of lane = lane.number
@@ -95,35 +95,26 @@ differing_first number true true first second = refl
 differing_first number false true first second = refl
 differing_first number true false first second = refl
 
-pub none_differ : (number : ℕ) (first_bit : Bool) (first : List Bool)
-    → differing number (first_bit ∷ first) [] ≡ []
-none_differ number false first = refl
-none_differ number true first = refl
-
-here_from : (number : ℕ) (first_bit second_bit : Bool)
-    → All (λ n. number ≤ n) (number_here number first_bit second_bit)
-here_from number false false = All-nil (λ n. number ≤ n)
-here_from number true true = All-nil (λ n. number ≤ n)
-here_from number false true = All-cons (λ n. number ≤ n) number [] (omega arith)
-    (All-nil (λ n. number ≤ n))
-here_from number true false = All-cons (λ n. number ≤ n) number [] (omega arith)
-    (All-nil (λ n. number ≤ n))
-
--- these are of the lanes from that number on
-pub later_lanes : (number : ℕ) (first second : List Bool)
-    → All (λ n. number ≤ n) (differing number first second)
-later_lanes number [] second = All-nil (λ n. number ≤ n)
-later_lanes number (first_bit ∷ first) [] =
-    subst (All (λ n. number ≤ n)) (sym (none_differ number first_bit first))
-    (All-nil (λ n. number ≤ n))
-later_lanes number (first_bit ∷ first) (second_bit ∷ second) =
-    let P : ℕ → Type 0 = λ n. number ≤ n in
-    let later : All P (differing (number + 1) first second) =
-    All-weaker (λ n. number + 1 ≤ n) P (λ n le. omega (arith, le))
-    (differing (number + 1) first second) (later_lanes (number + 1) first second) in
+-- what holds of each number from that one on, as far as the bits go, holds of these lanes
+pub each_differing : (P : ℕ → Type 0) (number : ℕ) (first second : List Bool)
+    → ((n : ℕ) → number ≤ n → n < number + length first → P n)
+    → All P (differing number first second)
+each_differing P number [] second each = All-nil P
+each_differing P number (false ∷ first) [] each = All-nil P
+each_differing P number (true ∷ first) [] each = All-nil P
+each_differing P number (first_bit ∷ first) (second_bit ∷ second) each =
     subst (All P) (sym (differing_first number first_bit second_bit first second))
     (All-append P (number_here number first_bit second_bit) (differing (number + 1) first second)
-    (here_from number first_bit second_bit) later)
+    (all_here first_bit second_bit (each number (omega arith) (omega arith)))
+    (each_differing P (number + 1) first second
+    (λ n from below. each n (omega (arith, from)) (omega (arith, below)))))
+  where
+    all_here : (first_bit second_bit : Bool) → P number
+        → All P (number_here number first_bit second_bit)
+    all_here false false is = All-nil P
+    all_here true true is = All-nil P
+    all_here false true is = All-cons P number [] is (All-nil P)
+    all_here true false is = All-cons P number [] is (All-nil P)
 
 -- ---- where a clash stands
 
@@ -204,14 +195,13 @@ module _ (s : StatementValue) (number : ℕ) (case : LaneCase) (is : IsStatement
         number = number;
         bids = opened_bids (seats_of s.seals) zero one;
       } in
-      let shown = case_shown s number case zero one is some last of_lane first second in
-      let opens = case_opens s number case zero one is some last of_lane first second none in
+      let gives = case_gives s number case zero one is some last of_lane first second in
       let P : ℕ → Type 0 = λ n. (n ≡ number) × (clash_of_lane case zero one ≡ None) in
       record {
         numbered = refl;
-        shown = All-cons (IsOfLane number zero one) bids [] (refl, shown)
+        shown = All-cons (IsOfLane number zero one) bids [] (refl, gives.1)
             (All-nil (IsOfLane number zero one));
-        each = All-cons (LaneOpens s) bids [] opens (All-nil (LaneOpens s));
+        each = All-cons (LaneOpens s) bids [] (gives.0 none) (All-nil (LaneOpens s));
         agree = All-cons P number [] (refl, none) (All-nil P);
       }
   by_clash zero one first second (Some two) found = record {
@@ -401,6 +391,6 @@ module _ (s : StatementValue) (at : ℕ → TwoLane) where
       subst P (sym all) (subst Q (sym given.0.0) (
       next_adds number (number_here number (at number).first_bit (at number).second_bit)
       (differing (number + 1) first second) before lanes (lane_found s number (at number)) gives
-      (later_lanes (number + 1) first second)
+      (each_differing (λ n. number + 1 ≤ n) (number + 1) first second (λ n from below. from))
       (λ before. gathered_adds (number + 1) first second lanes before is (omega arith)
       (omega (arith, within)) right given.1)))

@@ -200,8 +200,7 @@ all_bids s at numbers all adds =
 
 -- ---- behind a front
 
-module _ {s : StatementValue} {front file first_challenge first_reply second_challenge second_reply : List ℕ}
-    (two : TwoAcceptedBehind s front file first_challenge first_reply second_challenge second_reply) where
+module _ {s : StatementValue} {front file challenge reply other second : List ℕ} (two : TwoAcceptedBehind s front file challenge reply other second) where
   lane_behind : two.second.lines ≡ two.first.lines → (number : ℕ) → 1 ≤ number → number ≤ s.lanes
       → IsLane s number (lane_of two number)
   lane_behind one number some last =
@@ -229,12 +228,11 @@ module _ {s : StatementValue} {front file first_challenge first_reply second_cha
   opened_is (Err clash) adds = clash_is s (lane_of two) (differing_behind two) clash adds
 
 pub accepted_behind_open : AcceptedBehindOpen
-accepted_behind_open s is front file first_challenge first_reply second_challenge second_reply rest
-    same two =
-    let give = accepted_behind_give s is front file first_challenge first_reply second_challenge
-    second_reply rest same two.first two.second in
-    let ahead = ahead_behind s rest (from_start first_challenge) (from_start first_reply)
-    (from_start second_challenge) (from_start second_reply) in
+accepted_behind_open s is front file challenge reply other second rest same two =
+    let give = accepted_behind_give s is front file challenge reply other second rest same two.first
+    two.second in
+    let ahead = ahead_behind s rest (from_start challenge) (from_start reply) (from_start other)
+    (from_start second) in
     let base = base_with two.first two.second in
     let opened = opened_is two (gathered_from s (Ok []) 1 ahead.lanes)
     (lanes_add s (lane_of two) two.first.challenge.bits two.second.challenge.bits ahead.lanes is
@@ -269,20 +267,19 @@ found_ready kept base ends.Same gathered found = absurd found
 found_ready kept base ends.Ready gathered found = refl
 
 pub only_accepted_open : OnlyAcceptedOpen
-only_accepted_open s is front file first_challenge first_reply second_challenge second_reply rest
-    same found =
-    let ahead = ahead_behind s rest (from_start first_challenge) (from_start first_reply)
-    (from_start second_challenge) (from_start second_reply) in
-    let base = base_in (base_behind s rest (from_start first_challenge) (from_start first_reply)
-    (from_start second_challenge) (from_start second_reply)) in
+only_accepted_open s is front file challenge reply other second rest same found =
+    let ahead = ahead_behind s rest (from_start challenge) (from_start reply) (from_start other)
+    (from_start second) in
+    let base = base_in (base_behind s rest (from_start challenge) (from_start reply)
+    (from_start other) (from_start second)) in
     let ready : ahead.finding ≡ ends.Ready =
     found_ready (λ (base : Base). opened_of base.statement) base ahead.finding
     (gathered_after (λ (base : Base). base.statement) base ahead.lanes) found in
     let A : Finding Fault → Type 0 = λ finding. BothAreAccepted finding in
-    let both = only_accepted_behind s is front file first_challenge first_reply second_challenge
-    second_reply rest same (subst A (sym ready) tt) in
-    let give = accepted_behind_give s is front file first_challenge first_reply second_challenge
-    second_reply rest same both.0 both.1 in
+    let both = only_accepted_behind s is front file challenge reply other second rest same
+    (subst A (sym ready) tt) in
+    let give = accepted_behind_give s is front file challenge reply other second rest same both.0
+    both.1 in
     record {
       first = both.0;
       second = both.1;

@@ -22,7 +22,7 @@ files_are_extracted = are_of_held extraction_at
 
 -- ---- from what is to come of the files
 
-step_after : {A X Y E : Type 0} (read : Result A E) (first : A → X) (next : X → Y)
+pub step_after : {A X Y E : Type 0} (read : Result A E) (first : A → X) (next : X → Y)
     → (read >>= λ a. Ok (next (first a))) ≡ ((read >>= λ a. Ok (first a)) >>= λ x. Ok (next x))
 step_after (Ok a) first next = refl
 step_after (Err e) first next = refl

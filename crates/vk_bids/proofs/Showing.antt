@@ -154,44 +154,22 @@ module _ (s : StatementValue) (number : ℕ) (lines : LaneLines) (zs os : List S
       (lane_opened.at_seats index bid get)
 
 -- the same of a case that is that of the lane
-record AreThose (s : StatementValue) (number : ℕ) (case : LaneCase)
-    (zero_shown one_shown : List Shown) : Type 0 where
-  pub lines : LaneLines
-  pub case_is : case ≡ case_of s number lines
-  pub for_zero : IsAccepted s.plan (case_of s number lines) false zero_shown
-  pub for_one : IsAccepted s.plan (case_of s number lines) true one_shown
-
-those : (s : StatementValue) (number : ℕ) (case : LaneCase) (zero_shown one_shown : List Shown)
-    → IsCaseOf s number case
-    → IsAccepted s.plan case false zero_shown → IsAccepted s.plan case true one_shown
-    → AreThose s number case zero_shown one_shown
-those s number case zs os of_lane first second =
-    let Q : LaneCase → Type 0 = λ case. IsAccepted s.plan case false zs
-    × IsAccepted s.plan case true os in
-    let both = subst Q of_lane.1 (first, second) in
-    record { lines = of_lane.0; case_is = of_lane.1; for_zero = both.0; for_one = both.1 }
-
-pub case_opens : (s : StatementValue) (number : ℕ) (case : LaneCase)
+pub case_gives : (s : StatementValue) (number : ℕ) (case : LaneCase)
     (zero_shown one_shown : List Shown)
     → IsStatement s → 1 ≤ number → number ≤ s.lanes → IsCaseOf s number case
     → IsAccepted s.plan case false zero_shown → IsAccepted s.plan case true one_shown
-    → clash_of_lane case zero_shown one_shown ≡ None
-    → OpensValues s number (opened_bids (seats_of s.seals) zero_shown one_shown)
-case_opens s number case zs os is some last of_lane first second none =
-    let are = those s number case zs os of_lane first second in
-    let no_clash = subst (λ (case : LaneCase). clash_of_lane case zs os ≡ None) are.case_is none in
-    lane_opens s number are.lines zs os are.for_zero.0 are.for_one.0 is some last are.for_zero.1
-    are.for_one.1 no_clash
-
-pub case_shown : (s : StatementValue) (number : ℕ) (case : LaneCase)
-    (zero_shown one_shown : List Shown)
-    → IsStatement s → 1 ≤ number → number ≤ s.lanes → IsCaseOf s number case
-    → IsAccepted s.plan case false zero_shown → IsAccepted s.plan case true one_shown
-    → AreShownIn zero_shown one_shown (opened_bids (seats_of s.seals) zero_shown one_shown)
-case_shown s number case zs os is some last of_lane first second =
-    let are = those s number case zs os of_lane first second in
-    lane_shown s number are.lines zs os are.for_zero.0 are.for_one.0 is some last are.for_zero.1
-    are.for_one.1
+    → (clash_of_lane case zero_shown one_shown ≡ None
+    → OpensValues s number (opened_bids (seats_of s.seals) zero_shown one_shown))
+    × AreShownIn zero_shown one_shown (opened_bids (seats_of s.seals) zero_shown one_shown)
+case_gives s number case zs os is some last of_lane =
+    let bids = opened_bids (seats_of s.seals) zs os in
+    let P : LaneCase → Type 0 =
+    λ case. IsAccepted s.plan case false zs → IsAccepted s.plan case true os
+    → (clash_of_lane case zs os ≡ None → OpensValues s number bids) × AreShownIn zs os bids in
+    subst P (sym of_lane.1) (λ first second. (
+      lane_opens s number of_lane.0 zs os first.0 second.0 is some last first.1 second.1,
+      lane_shown s number of_lane.0 zs os first.0 second.0 is some last first.1 second.1,
+    ))
 
 -- a clash that is answered
 pub refusal_opens : (refused : LaneErr) (plan : PlanValue) (case : LaneCase)

@@ -1,10 +1,10 @@
 -- A digest of a wire of a lane stands in the file: in the lines of a seal, or of the lane.
-use Rattle.std.proofs.Common.{◌≡◌, ℕ, zero, suc, ◌+◌, ◌-◌, ◌<◌, ◌≤◌, Bool, true, false, All, List, [], ◌∷◌, ◌++◌, length, get_or, refl, sym, ap, subst, ◌∙◌, arith, length-append}
+use Rattle.std.proofs.Common.{◌≡◌, ℕ, zero, suc, ◌+◌, ◌-◌, ◌<◌, ◌≤◌, Bool, true, false, List, [], ◌∷◌, ◌++◌, length, get_or, refl, sym, ap, subst, ◌∙◌, arith, length-append}
 use Rattle.std.specs.Prelude.{codes, decimal, slice_index_or}
 use Rattle.std.specs.List.{flat_map}
 use Rattle.std.proofs.lemmas.List.{append_assoc, append-nil, get_or-append_right, length-map}
 use Rattle.std.proofs.lemmas.Bool.{cases_lt}
-use Rattle.std.proofs.lemmas.List.Elements.{All-append, All-cons, All-contains, All-nil, All-weaker}
+use Rattle.std.proofs.lemmas.List.Elements.{All-contains}
 use mathlib.Core.Logic.{⊎_elim}
 use Rattle.vk_commit.specs.Commitment.{TwoOpeningsSeen}
 use Rattle.vk_commit.specs.declared.place.Place.{Place}
@@ -29,7 +29,7 @@ use Rattle.vk_judge.proofs.Counts.{seals_have}
 use Rattle.vk_bids.specs.Gathering.{lane_shown}
 use Rattle.vk_bids.specs.Headline.{IsFirstClashOf, differing}
 use Rattle.vk_bids.specs.Soundness.{StandsInFile}
-use Rattle.vk_bids.proofs.Gathered.{differing_first, later_lanes, none_differ, number_here}
+use Rattle.vk_bids.proofs.Gathered.{each_differing}
 use Rattle.vk_bids.proofs.Seals.{no_seal, seal_commits}
 
 -- ---- parts of texts
@@ -195,33 +195,6 @@ module _ (s : StatementValue) (head : List ℕ) (lines : List LaneLines) (number
 
 -- ---- a clash of two replies
 
--- the lanes with these numbers are at most so many
-differing_below : (number : ℕ) (first second : List Bool)
-    → All (λ n. n < number + length first) (differing number first second)
-differing_below number [] second = All-nil (λ n. n < number + 0)
-differing_below number (first_bit ∷ first) [] =
-    subst (All (λ n. n < number + suc (length first))) (sym (none_differ number first_bit first))
-    (All-nil (λ n. n < number + suc (length first)))
-differing_below number (first_bit ∷ first) (second_bit ∷ second) =
-    let P : ℕ → Type 0 = λ n. n < number + suc (length first) in
-    let later : All P (differing (number + 1) first second) =
-    All-weaker (λ n. n < number + 1 + length first) P (λ n lt. omega (arith, lt))
-    (differing (number + 1) first second) (differing_below (number + 1) first second) in
-    subst (All P) (sym (differing_first number first_bit second_bit first second))
-    (All-append P (number_here number first_bit second_bit) (differing (number + 1) first second)
-    (here_below number (suc (length first)) first_bit second_bit (omega arith)) later)
-  where
-    here_below : (number more : ℕ) (first_bit second_bit : Bool) → 1 ≤ more
-        → All (λ n. n < number + more) (number_here number first_bit second_bit)
-    here_below number more false false some = All-nil (λ n. n < number + more)
-    here_below number more true true some = All-nil (λ n. n < number + more)
-    here_below number more false true some =
-        All-cons (λ n. n < number + more) number [] (omega arith)
-        (All-nil (λ n. n < number + more))
-    here_below number more true false some =
-        All-cons (λ n. n < number + more) number [] (omega arith)
-        (All-nil (λ n. n < number + more))
-
 -- the digest that is opened twice is one of the wire's
 clash_digest : (place : Place) (digests : WireCom) (zero_shown one_shown : Shown)
     (two : TwoOpeningsSeen) → IsClash place digests zero_shown one_shown two
@@ -245,12 +218,11 @@ pub clash_stands : {s : StatementValue} {front file challenge reply : List ℕ}
 clash_stands {s} {front} {file} accepted is head front_is at cases bits id clash found =
     let number = found.number in
     let case = case_behind accepted number in
-    let numbers = differing 1 accepted.challenge.bits bits in
-    let some : 1 ≤ number = All-contains (λ n. 1 ≤ n) numbers number
-    (later_lanes 1 accepted.challenge.bits bits) found.differs in
-    let below : number < 1 + length accepted.challenge.bits =
-    All-contains (λ n. n < 1 + length accepted.challenge.bits) numbers number
-    (differing_below 1 accepted.challenge.bits bits) found.differs in
+    let first_bits = accepted.challenge.bits in
+    let numbers = differing 1 first_bits bits in
+    let P : ℕ → Type 0 = λ n. (1 ≤ n) × (n < 1 + length first_bits) in
+    let counted : P number = All-contains P numbers number
+    (each_differing P 1 first_bits bits (λ n from below. (from, below))) found.differs in
     let W : LaneCase → Type 0 = λ c. found.wire < length c.coms in
     let within : found.wire < length case.coms = subst W (cases number) found.first.within in
     let digests = slice_index_or case.coms found.wire no_digests in
@@ -262,8 +234,8 @@ clash_stands {s} {front} {file} accepted is head front_is at cases bits id clash
     (slice_index_or (at number).case.coms found.wire no_digests) zero_shown one_shown clash
     found.first.clash) in
     let F : List ℕ → Type 0 = λ text. StandsInFile (hex_text clash.digest) text in
-    let stands = digest_stands s head accepted.lines number is accepted.one_each some
-    (omega (arith, accepted.one_bit_each)) found.wire digest.0 within in
+    let stands = digest_stands s head accepted.lines number is accepted.one_each counted.0
+    (omega (arith, counted.1, accepted.one_bit_each)) found.wire digest.0 within in
     subst F (sym (accepted.file_is.0 ∙ ap (λ text. file_text text accepted.lines) front_is))
     (subst (λ d. StandsInFile (hex_text d)
     (file_text (head ++ flat_map seal_lines_text s.seals) accepted.lines)) (sym digest.1) stands)

@@ -102,20 +102,18 @@ IsConfrontationOf secret found (Held seat) = (seat ≡ secret.seat) × IsHeldBy 
 
 -- the replies open one commitment with two values, and that is the answer; or they give these bids,
 -- and the answer is of them
-abbrev pub ClashOr : {board first_challenge first_reply second_challenge second_reply : List ℕ}
-    → TwoAccepted board first_challenge first_reply second_challenge second_reply
-    → (Extracted → Type 0) → Confrontation → Type 0
+abbrev pub ClashOr : {board challenge reply other second : List ℕ}
+    → TwoAccepted board challenge reply other second → (Extracted → Type 0) → Confrontation → Type 0
 ClashOr two IsAnswer confrontation =
     ((clash : TwoOpeningsSeen) × IsExtractionClash two clash × (confrontation ≡ Clash clash))
     ⊎ ((found : Extracted) × IsExtraction two found × IsAnswer found)
 
 -- against two replies that are accepted for different challenges
 abbrev pub SecretsAreBound : Type 0
-SecretsAreBound = (board first_challenge first_reply second_challenge second_reply file : List ℕ)
-    (two : TwoAccepted board first_challenge first_reply second_challenge second_reply)
-    (secret : Secret) → IsSecret secret → file ≡ secret_text secret
-    → let confrontation = confrontation_in board first_challenge first_reply second_challenge
-    second_reply file in
+SecretsAreBound = (board challenge reply other second file : List ℕ)
+    (two : TwoAccepted board challenge reply other second) (secret : Secret)
+    → IsSecret secret → file ≡ secret_text secret
+    → let confrontation = confrontation_in board challenge reply other second file in
     ClashOr two (λ found. IsConfrontationOf secret found confrontation) confrontation
 
 -- the secret is held, and in each lane both halves are the secret's; or there is a clash
@@ -127,22 +125,18 @@ HeldOrClash secret index found confrontation =
 -- where a seal on the board is the secret's, the secret is held or there is a clash: so there is
 -- one where in some lane a half isn't the secret's
 abbrev pub SealedAreHeldOrClash : Type 0
-SealedAreHeldOrClash = (board first_challenge first_reply second_challenge second_reply file : List
-    ℕ)
-    (two : TwoAccepted board first_challenge first_reply second_challenge second_reply)
-    (secret : Secret) (index : ℕ)
+SealedAreHeldOrClash = (board challenge reply other second file : List ℕ)
+    (two : TwoAccepted board challenge reply other second) (secret : Secret) (index : ℕ)
     → IsSecret secret → file ≡ secret_text secret → IsSealOf (two.first.front) secret index
-    → let confrontation = confrontation_in board first_challenge first_reply second_challenge
-    second_reply file in
+    → let confrontation = confrontation_in board challenge reply other second file in
     ClashOr two (λ found. HeldOrClash secret index found confrontation) confrontation
 
 -- a file that is no secret is named with its fault line
 abbrev pub OthersAreMalformed : Type 0
-OthersAreMalformed = (board first_challenge first_reply second_challenge second_reply file : List ℕ)
-    (two : TwoAccepted board first_challenge first_reply second_challenge second_reply) (line : ℕ)
+OthersAreMalformed = (board challenge reply other second file : List ℕ)
+    (two : TwoAccepted board challenge reply other second) (line : ℕ)
     → fault_line secret_table file ≡ Some line
-    → let confrontation = confrontation_in board first_challenge first_reply second_challenge
-    second_reply file in
+    → let confrontation = confrontation_in board challenge reply other second file in
     ClashOr two (λ found. confrontation ≡ Malformed line) confrontation
 
 -- the secret is asked for, or there is a clash
@@ -157,36 +151,28 @@ IsOfTwo (Held seat) = Unit {0}
 
 -- only replies that are accepted for different challenges come to that
 abbrev pub OnlyAcceptedAreConfronted : Type 0
-OnlyAcceptedAreConfronted = (board first_challenge first_reply second_challenge second_reply
-    file : List ℕ)
-    → IsOfTwo (confrontation_in board first_challenge first_reply second_challenge second_reply
-    file)
-    → TwoAccepted board first_challenge first_reply second_challenge second_reply
+OnlyAcceptedAreConfronted = (board challenge reply other second file : List ℕ)
+    → IsOfTwo (confrontation_in board challenge reply other second file)
+    → TwoAccepted board challenge reply other second
 
 -- what their bytes and those of a secret come to
-abbrev pub confrontation_of_held : {files : Files}
-    {board first_challenge first_reply second_challenge second_reply : List ℕ}
-    → HeldFiles files board first_challenge first_reply second_challenge second_reply → List ℕ
-    → Confrontation
+abbrev pub confrontation_of_held : {files : Files} {board challenge reply other second : List ℕ}
+    → HeldFiles files board challenge reply other second → List ℕ → Confrontation
 confrontation_of_held held secret =
     confrontation_in held.file_bytes held.first.challenge_bytes held.first.reply_bytes
     held.second.challenge_bytes held.second.reply_bytes secret
 
 -- the six files are held, and their bytes come to this confrontation
-pub record ConfrontationOf (files : Files)
-    (board first_challenge first_reply second_challenge second_reply secret : List ℕ)
+pub record ConfrontationOf (files : Files) (board challenge reply other second secret : List ℕ)
     (confrontation : Confrontation) : Type 0 where
-  pub held : HeldFiles files board first_challenge first_reply second_challenge second_reply
+  pub held : HeldFiles files board challenge reply other second
   pub secret_bytes : List ℕ
   pub secret_is : IsHeldFile files secret secret_bytes
   pub is : confrontation ≡ confrontation_of_held held secret_bytes
 
 -- the confrontation of named files is that of their bytes, where all are held and none is too long
 abbrev pub FilesAreConfronted : Type 0
-FilesAreConfronted = (files : Files)
-    (board first_challenge first_reply second_challenge second_reply secret : List ℕ)
+FilesAreConfronted = (files : Files) (board challenge reply other second secret : List ℕ)
     (confrontation : Confrontation)
-    → (confrontation_on files board first_challenge first_reply second_challenge second_reply secret
-    ≡ Ok confrontation)
-    ↔ ConfrontationOf files board first_challenge first_reply second_challenge second_reply secret
-    confrontation
+    → (confrontation_on files board challenge reply other second secret ≡ Ok confrontation)
+    ↔ ConfrontationOf files board challenge reply other second secret confrontation

@@ -102,8 +102,8 @@ secret_in (Err line) = Err line
 -- what the bytes of a board, a challenge and the reply to it, another challenge and reply, and a
 -- secret come to
 abbrev pub confrontation_in : List ℕ → List ℕ → List ℕ → List ℕ → List ℕ → List ℕ → Confrontation
-confrontation_in board first_challenge first_reply second_challenge second_reply secret =
-    confrontation_of (extraction_in board first_challenge first_reply second_challenge second_reply)
+confrontation_in board challenge reply other second secret =
+    confrontation_of (extraction_in board challenge reply other second)
     (secret_in (secret_at (from_start secret)))
 
 -- which file of an extraction is missing or too long
@@ -120,9 +120,8 @@ secret_begun (Some bytes) = if nat_lt (2 ^ 30) (length bytes) then Err TooLongSe
 -- the same of the named files; or the first of them, in this order, that is missing or too long
 unfoldable pub confrontation_on : Files → List ℕ → List ℕ → List ℕ → List ℕ → List ℕ → List ℕ
     → Result Confrontation ConfrontErr
-confrontation_on files board first_challenge first_reply second_challenge second_reply secret = do
-  extraction ← of_extraction (extraction_on files board first_challenge first_reply second_challenge
-      second_reply)
+confrontation_on files board challenge reply other second secret = do
+  extraction ← of_extraction (extraction_on files board challenge reply other second)
   rest ← secret_begun (get files secret)
   Ok (confrontation_of extraction (secret_in (secret_at rest)))
 

@@ -7,7 +7,8 @@ use Rattle.vk_board.specs.declared.front.Front.{Front}
 use Rattle.vk_board.specs.Fronts.{IsFront}
 use Rattle.vk_judge.specs.declared.answers.VErr.{VErr}
 use Rattle.vk_judge.specs.declared.named.TwoReplies.{TwoReplies}
-use Rattle.vk_judge.specs.Begun.{from_start, of_files}
+use Rattle.vk_judge.specs.Begun.{of_files}
+use Rattle.vk_judge.specs.HeldFiles.{of_bytes}
 use Rattle.vk_judge.specs.Opened.{Coming, file_coming}
 use Rattle.vk_verifier.specs.declared.answers.BoardRefusal.{BoardRefusal}
 use Rattle.vk_verifier.specs.declared.answers.BoardVerdict.{BoardVerdict}
@@ -42,15 +43,12 @@ board_extraction coming = as_extraction (extraction_of coming)
 
 -- what a board, a challenge and the reply to it, and another challenge and reply come to
 abbrev pub extraction_at : Rest → Rest → Rest → Rest → Rest → Extraction
-extraction_at board first_challenge first_reply second_challenge second_reply =
-    board_extraction (file_coming board_front_at board first_challenge first_reply second_challenge
-    second_reply)
+extraction_at board challenge reply other second =
+    board_extraction (file_coming board_front_at board challenge reply other second)
 
 -- their bytes
 abbrev pub extraction_in : List ℕ → List ℕ → List ℕ → List ℕ → List ℕ → Extraction
-extraction_in board first_challenge first_reply second_challenge second_reply =
-    extraction_at (from_start board) (from_start first_challenge) (from_start first_reply)
-    (from_start second_challenge) (from_start second_reply)
+extraction_in = of_bytes extraction_at
 
 -- the same of the named files; or the first of them, in this order, that is missing or too long
 unfoldable pub extraction_on : Files → List ℕ → List ℕ → List ℕ → List ℕ → List ℕ

@@ -5,31 +5,23 @@ use Rattle.vk_commit.specs.Commitment.{TwoOpeningsSeen}
 use Rattle.vk_lines.specs.Lines.{Rest}
 use Rattle.vk_judge.specs.declared.opened.Opened.{Opened}
 use Rattle.vk_judge.specs.declared.opened.Refusal.{Refusal}
-use Rattle.vk_judge.specs.declared.opened.Refusal.TheVariants as refusal
 use Rattle.vk_judge.specs.declared.stage.Finding.{Finding}
 use Rattle.vk_judge.specs.declared.stage.Finding.TheVariants as finds
 use Rattle.vk_judge.specs.Statement.{IsStatement}
-use Rattle.vk_judge.specs.Begun.{from_start}
+use Rattle.vk_judge.specs.HeldFiles.{of_bytes}
 use Rattle.vk_judge.specs.Two.{Ahead}
 use Rattle.vk_judge.specs.Opened.{Coming, FileBase, Front, coming_past, file_coming, opened_in}
 use Rattle.vk_bids.specs.declared.bids.LaneBids.{LaneBids}
 use Rattle.vk_bids.specs.declared.extraction.Extraction.{Extraction}
-use Rattle.vk_bids.specs.declared.extraction.Extraction.TheVariants.{Refused, Same, Clash, Bids}
+use Rattle.vk_bids.specs.declared.extraction.Extraction.TheVariants.{Refused, Same}
 use Rattle.vk_bids.specs.declared.file_extraction.OpenedFile.{OpenedFile}
 use Rattle.vk_bids.specs.Extractions.{IsFound, OfBids, comes_to}
 use Rattle.vk_bids.specs.Gathering.{gathered_from}
-use Rattle.vk_bids.specs.LaneExtraction.{LaneExtraction, opened_of}
+use Rattle.vk_bids.specs.LaneExtraction.{opened_of}
 use Rattle.vk_bids.specs.Opening.{LaneOpens}
 
 abbrev pub FileExtraction : Type 0 → Type 0 → Type 0
 FileExtraction H R = Extraction (Refusal R) (OpenedFile H)
-
--- from what they come to behind the front of this head
-abbrev pub extraction_with : {H R : Type 0} → H → LaneExtraction → FileExtraction H R
-extraction_with head (Refused second fault) = Refused second (refusal.Fault fault)
-extraction_with head Same = Same
-extraction_with head (Clash two) = Clash two
-extraction_with head (Bids opened) = Bids (record { head = head; opened = opened })
 
 -- these values, of the file that was opened
 abbrev pub values_of : {H : Type 0} → Opened H → List LaneBids → OpenedFile H
@@ -58,9 +50,7 @@ file_extraction front file challenge reply other second =
 -- of their bytes
 abbrev pub file_extraction_in : {H R : Type 0} → Front H R → List ℕ → List ℕ → List ℕ → List ℕ
     → List ℕ → FileExtraction H R
-file_extraction_in front file challenge reply other second =
-    file_extraction front (from_start file) (from_start challenge) (from_start reply)
-    (from_start other) (from_start second)
+file_extraction_in front = of_bytes (file_extraction front)
 
 -- ---- what is opened, whatever the files are
 

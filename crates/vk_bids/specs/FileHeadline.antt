@@ -29,8 +29,7 @@ pub record SameAccepted {F : Type 0} (fronts : Fronts F)
   pub second : Accepts fronts file second_challenge second_reply
   pub same : bits_of first ≡ bits_of second
 
-module _ {F : Type 0} {fronts : Fronts F} {file first_challenge first_reply second_challenge second_reply : List ℕ}
-    (two : TwoAccepted fronts file first_challenge first_reply second_challenge second_reply) where
+module _ {F : Type 0} {fronts : Fronts F} {file challenge reply other second : List ℕ} (two : TwoAccepted fronts file challenge reply other second) where
   -- the numbers of the lanes whose two bits differ, from 1
   abbrev pub differing_in : List ℕ
   differing_in = differing 1 (bits_of two.first) (bits_of two.second)
@@ -62,51 +61,42 @@ module _ {F : Type 0} {fronts : Fronts F} {file first_challenge first_reply seco
 
 -- the values are those of the replies, and the head that of the file
 pub record IsOpenedFile {F H R : Type 0} (form : Form F H R)
-    {file first_challenge first_reply second_challenge second_reply : List ℕ}
-    (two : TwoAccepted form.fronts file first_challenge first_reply second_challenge second_reply)
+    {file challenge reply other second : List ℕ}
+    (two : TwoAccepted form.fronts file challenge reply other second)
     (found : OpenedFile H) : Type 0 where
   pub head : found.head ≡ form.head two.first.front
   pub opened : IsOpenedBy two found.opened
 
 -- what the replies come to is their values, or a clash of them
 abbrev pub IsOfFile : {F H R : Type 0} (form : Form F H R)
-    {file first_challenge first_reply second_challenge second_reply : List ℕ}
-    → TwoAccepted form.fronts file first_challenge first_reply second_challenge second_reply
-    → FileExtraction H R → Type 0
+    {file challenge reply other second : List ℕ}
+    → TwoAccepted form.fronts file challenge reply other second → FileExtraction H R → Type 0
 IsOfFile form two = IsClashOr (IsClashOf two) (IsOpenedFile form two)
 
 -- two replies that are accepted for different challenges give values or a clash
 abbrev pub AcceptedOpen : {F H R : Type 0} → Form F H R → Type 0
-AcceptedOpen form = (file first_challenge first_reply second_challenge second_reply : List ℕ)
-    (two : TwoAccepted form.fronts file first_challenge first_reply second_challenge second_reply)
-    → IsOfFile form two
-    (file_extraction_in form.front_at file first_challenge first_reply second_challenge
-    second_reply)
+AcceptedOpen form = (file challenge reply other second : List ℕ)
+    (two : TwoAccepted form.fronts file challenge reply other second)
+    → IsOfFile form two (file_extraction_in form.front_at file challenge reply other second)
 
 -- only such replies do
 abbrev pub OnlyAcceptedOpenFile : {F H R : Type 0} → Form F H R → Type 0
-OnlyAcceptedOpenFile form = (file first_challenge first_reply second_challenge
-    second_reply : List ℕ)
-    → IsFound
-    (file_extraction_in form.front_at file first_challenge first_reply second_challenge
-    second_reply)
-    → TwoAccepted form.fronts file first_challenge first_reply second_challenge second_reply
+OnlyAcceptedOpenFile form = (file challenge reply other second : List ℕ)
+    → IsFound (file_extraction_in form.front_at file challenge reply other second)
+    → TwoAccepted form.fronts file challenge reply other second
 
 -- challenges are found to be the same exactly where both replies are accepted and they are
 abbrev pub SameIsFoundOfFile : {F H R : Type 0} → Form F H R → Type 0
-SameIsFoundOfFile form = (file first_challenge first_reply second_challenge second_reply : List ℕ)
-    → (file_extraction_in form.front_at file first_challenge first_reply second_challenge
-    second_reply ≡ Same)
-    ↔ SameAccepted form.fronts file first_challenge first_reply second_challenge second_reply
+SameIsFoundOfFile form = (file challenge reply other second : List ℕ)
+    → (file_extraction_in form.front_at file challenge reply other second ≡ Same)
+    ↔ SameAccepted form.fronts file challenge reply other second
 
 -- what the extraction comes to is what is found
 abbrev pub ExtractsByFinding : {F H R : Type 0} → Form F H R → Type 0
-ExtractsByFinding form = (file first_challenge first_reply second_challenge second_reply : List ℕ)
+ExtractsByFinding form = (file challenge reply other second : List ℕ)
     → IsFoundBy (λ refusal. refusal)
-    (coming_in form.front_at file first_challenge first_reply second_challenge
-    second_reply).ahead.finding
-    (file_extraction_in form.front_at file first_challenge first_reply second_challenge
-    second_reply)
+    (coming_in form.front_at file challenge reply other second).ahead.finding
+    (file_extraction_in form.front_at file challenge reply other second)
 
 -- ---- by the bytes of the files
 

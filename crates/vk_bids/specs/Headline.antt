@@ -29,9 +29,8 @@ SameAccepted = file.SameAccepted board_fronts
 -- what the replies show of it, they open its seals, and whatever the board's version, the sale that
 -- they make under its reserve is the one that it publishes. In each of these lanes the spent
 -- entries agree
-pub record IsExtraction {board first_challenge first_reply second_challenge second_reply : List ℕ}
-    (two : TwoAccepted board first_challenge first_reply second_challenge second_reply)
-    (found : Extracted) : Type 0 where
+pub record IsExtraction {board challenge reply other second : List ℕ}
+    (two : TwoAccepted board challenge reply other second) (found : Extracted) : Type 0 where
   pub front : found.front ≡ two.first.front
   pub numbers : map (λ lane. lane.number) found.lanes ≡ differing_in two
   pub shown : All (λ lane. AreShownIn (shown_of two false lane.number)
@@ -40,53 +39,45 @@ pub record IsExtraction {board first_challenge first_reply second_challenge seco
   pub agree : All (LaneAgrees two) (differing_in two)
 
 -- one commitment of the board is opened with different values
-abbrev pub IsExtractionClash : {board first_challenge first_reply second_challenge
-    second_reply : List ℕ}
-    → TwoAccepted board first_challenge first_reply second_challenge second_reply → TwoOpeningsSeen
-    → Type 0
+abbrev pub IsExtractionClash : {board challenge reply other second : List ℕ}
+    → TwoAccepted board challenge reply other second → TwoOpeningsSeen → Type 0
 IsExtractionClash two = IsClashOf two
 
 -- the extraction is the bids of the replies, or a clash of them
-abbrev pub IsOf : {board first_challenge first_reply second_challenge second_reply : List ℕ}
-    → TwoAccepted board first_challenge first_reply second_challenge second_reply → Extraction
-    → Type 0
+abbrev pub IsOf : {board challenge reply other second : List ℕ}
+    → TwoAccepted board challenge reply other second → Extraction → Type 0
 IsOf two = IsClashOr (IsExtractionClash two) (IsExtraction two)
 
 -- two replies that are accepted for different challenges give the bids or a clash
 abbrev pub AcceptedAreExtracted : Type 0
-AcceptedAreExtracted = (board first_challenge first_reply second_challenge second_reply : List ℕ)
-    (two : TwoAccepted board first_challenge first_reply second_challenge second_reply)
-    → IsOf two (extraction_in board first_challenge first_reply second_challenge second_reply)
+AcceptedAreExtracted = (board challenge reply other second : List ℕ)
+    (two : TwoAccepted board challenge reply other second)
+    → IsOf two (extraction_in board challenge reply other second)
 
 -- only such replies give them
 abbrev pub OnlyAcceptedAreExtracted : Type 0
-OnlyAcceptedAreExtracted = (board first_challenge first_reply second_challenge second_reply : List
-    ℕ)
-    → IsFound (extraction_in board first_challenge first_reply second_challenge second_reply)
-    → TwoAccepted board first_challenge first_reply second_challenge second_reply
+OnlyAcceptedAreExtracted = (board challenge reply other second : List ℕ)
+    → IsFound (extraction_in board challenge reply other second)
+    → TwoAccepted board challenge reply other second
 
 -- challenges are found to be the same exactly where both replies are accepted and they are
 abbrev pub SameIsFound : Type 0
-SameIsFound = (board first_challenge first_reply second_challenge second_reply : List ℕ)
-    → (extraction_in board first_challenge first_reply second_challenge second_reply ≡ Same)
-    ↔ SameAccepted board first_challenge first_reply second_challenge second_reply
+SameIsFound = (board challenge reply other second : List ℕ)
+    → (extraction_in board challenge reply other second ≡ Same)
+    ↔ SameAccepted board challenge reply other second
 
 -- ---- in named files
 
 -- what the bytes of the five files that are held come to
-abbrev pub extraction_of_held : {files : Files}
-    {board first_challenge first_reply second_challenge second_reply : List ℕ}
-    → HeldFiles files board first_challenge first_reply second_challenge second_reply → Extraction
+abbrev pub extraction_of_held : {files : Files} {board challenge reply other second : List ℕ}
+    → HeldFiles files board challenge reply other second → Extraction
 extraction_of_held held =
     extraction_in held.file_bytes held.first.challenge_bytes held.first.reply_bytes
     held.second.challenge_bytes held.second.reply_bytes
 
 -- the extraction of named files is that of their bytes, where all are held and none is too long
 abbrev pub FilesAreExtracted : Type 0
-FilesAreExtracted = (files : Files)
-    (board first_challenge first_reply second_challenge second_reply : List ℕ)
+FilesAreExtracted = (files : Files) (board challenge reply other second : List ℕ)
     (extraction : Extraction)
-    → (extraction_on files board first_challenge first_reply second_challenge second_reply
-    ≡ Ok extraction)
-    ↔ ComesOfHeld extraction_at files board first_challenge first_reply second_challenge
-    second_reply extraction
+    → (extraction_on files board challenge reply other second ≡ Ok extraction)
+    ↔ ComesOfHeld extraction_at files board challenge reply other second extraction

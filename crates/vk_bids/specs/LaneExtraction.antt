@@ -26,7 +26,6 @@ lane_extraction = comes_to (λ base. base.statement) (λ base. opened_of base.st
 -- there, a challenge and the reply to it, and another challenge and reply
 abbrev pub lane_extraction_behind : StatementValue → Rest → Rest → Rest → Rest → Rest
     → LaneExtraction
-lane_extraction_behind s rest first_challenge first_reply second_challenge second_reply =
-    lane_extraction (base_in (base_behind s rest first_challenge first_reply second_challenge
-    second_reply))
-    (ahead_behind s rest first_challenge first_reply second_challenge second_reply)
+lane_extraction_behind s rest challenge reply other second =
+    lane_extraction (base_in (base_behind s rest challenge reply other second))
+    (ahead_behind s rest challenge reply other second)

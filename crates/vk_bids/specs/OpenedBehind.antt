@@ -56,8 +56,7 @@ pub record TwoAcceptedBehind (s : StatementValue)
   pub second : AcceptsBehind s front file second_challenge second_reply
   pub differ : first.challenge.bits ≢ second.challenge.bits
 
-module _ {s : StatementValue} {front file first_challenge first_reply second_challenge second_reply : List ℕ}
-    (two : TwoAcceptedBehind s front file first_challenge first_reply second_challenge second_reply) where
+module _ {s : StatementValue} {front file challenge reply other second : List ℕ} (two : TwoAcceptedBehind s front file challenge reply other second) where
   -- the numbers of the lanes whose two bits differ, from 1
   abbrev pub differing_behind : List ℕ
   differing_behind = differing 1 two.first.challenge.bits two.second.challenge.bits
@@ -89,20 +88,15 @@ module _ {s : StatementValue} {front file first_challenge first_reply second_cha
 -- replies that are accepted for different challenges give values or a clash
 abbrev pub AcceptedBehindOpen : Type 0
 AcceptedBehindOpen = (s : StatementValue) → IsStatement s
-    → (front file first_challenge first_reply second_challenge second_reply : List ℕ) (rest : Rest)
-    → file ≡ front ++ rest.left
-    → (two : TwoAcceptedBehind s front file first_challenge first_reply second_challenge
-    second_reply)
-    → IsOfBehind two
-    (lane_extraction_behind s rest (from_start first_challenge) (from_start first_reply)
-    (from_start second_challenge) (from_start second_reply))
+    → (front file challenge reply other second : List ℕ) (rest : Rest) → file ≡ front ++ rest.left
+    → (two : TwoAcceptedBehind s front file challenge reply other second)
+    → IsOfBehind two (lane_extraction_behind s rest (from_start challenge) (from_start reply)
+    (from_start other) (from_start second))
 
 -- only such replies give them
 abbrev pub OnlyAcceptedOpen : Type 0
 OnlyAcceptedOpen = (s : StatementValue) → IsStatement s
-    → (front file first_challenge first_reply second_challenge second_reply : List ℕ) (rest : Rest)
-    → file ≡ front ++ rest.left
-    → IsFound
-    (lane_extraction_behind s rest (from_start first_challenge) (from_start first_reply)
-    (from_start second_challenge) (from_start second_reply))
-    → TwoAcceptedBehind s front file first_challenge first_reply second_challenge second_reply
+    → (front file challenge reply other second : List ℕ) (rest : Rest) → file ≡ front ++ rest.left
+    → IsFound (lane_extraction_behind s rest (from_start challenge) (from_start reply)
+    (from_start other) (from_start second))
+    → TwoAcceptedBehind s front file challenge reply other second

@@ -30,5 +30,5 @@ pub use laws::{
     accepted_lanes_show_the_outcome, accepted_replies_give_bids_or_a_clash,
     accepted_replies_open_values_or_clash,
 };
-pub use printing::{extraction_lines, has_one_bid, sale_line};
+pub use printing::{add_agreements, add_lanes, extraction_lines, has_one_bid, sale_line};
 pub use vk_judge::TwoReplies;

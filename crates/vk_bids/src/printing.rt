@@ -1,7 +1,8 @@
 // What is printed of the bids that two replies give.
-ghost use Rattle.std.specs.Prelude.{◌≡◌, ◌++◌, IfOk, OnOk, codes, string_bytes};
+ghost use Rattle.std.specs.Prelude.{◌≡◌, ◌++◌, IfOk, OnOk, string_bytes};
 ghost use Rattle.std.specs.List.{flat_map};
-ghost use Rattle.vk_bids.specs.Texts.{agreement, agreements_text, bid_in, extraction_text, first_bid, has_one_bid, lane_bids_text, opened_line, opening_text, sale_line, sold_line};
+ghost use Rattle.vk_bids.specs.Texts.{agreement, agreements_text, bid_in, extraction_text, first_bid, has_one_bid, opened_line, opening_text, sale_line, sold_line};
+ghost use Rattle.vk_bids.specs.declared.bids.LaneBids.{LaneBids};
 
 use crate::bids::{LaneBids, OpenedBid};
 use crate::extraction::Extracted;
@@ -10,27 +11,56 @@ use vk_board::{Head, SealLines};
 use vk_commit::Opening;
 use vk_residue::{NoMemory, Residue};
 
-/// The lines of a lane's bids, one for each seal in order.
-fn lane_bids_lines(alloc: Global, lane: &LaneBids) -> Result<Vec<String>, NoMemory>
-    ensures { IfOk result (λ lines. flat_map string_bytes lines.items ≡ lane_bids_text lane.now) }
+/// Appends the lines of the lanes' values, each of them behind this word.
+pub fn add_lanes(
+    alloc: Global,
+    word: &str,
+    lanes: &[LaneBids],
+    lines: &mut Vec<String>,
+) -> Result<(), NoMemory>
+    ensures { OnOk result (flat_map string_bytes lines.new.items
+        ≡ flat_map string_bytes lines.old.items
+        ++ flat_map (λ (lane : LaneBids). flat_map (opened_line word.now lane.number) lane.bids)
+        lanes.now) }
 {
-    let mut lines = Vec::new(alloc);
-    for bid in lane.bids.as_slice() {
-        let line = bid_line(alloc, lane.number, bid)?;
-        lines.push(line)?;
+    for lane in lanes {
+        add_lane(alloc, word, lane, lines)?;
     }
-    Ok(lines)
+    Ok(())
 }
 
-/// The line of one bid of the lane.
-fn bid_line(alloc: Global, number: u32, bid: &OpenedBid) -> Result<String, NoMemory>
-    ensures { IfOk result (λ line. string_bytes line ≡ opened_line (codes "bid") number bid.now) }
+/// Appends the lines of a lane's values, one for each seal in order.
+fn add_lane(
+    alloc: Global,
+    word: &str,
+    lane: &LaneBids,
+    lines: &mut Vec<String>,
+) -> Result<(), NoMemory>
+    ensures { OnOk result (flat_map string_bytes lines.new.items
+        ≡ flat_map string_bytes lines.old.items
+        ++ flat_map (opened_line word.now lane.now.number) lane.now.bids) }
 {
-    let seat = bid.seat;
-    let sum = bid.bid.get();
-    let first = opening_fields(alloc, &bid.first)?;
-    let second = opening_fields(alloc, &bid.second)?;
-    let line = format!(in alloc; "lane {number} seat {seat} bid {sum} u {first} v {second}\n")?;
+    for value in lane.bids.as_slice() {
+        let line = opened_line(alloc, word, lane.number, value)?;
+        lines.push(line)?;
+    }
+    Ok(())
+}
+
+/// The line of one value of the lane of that number, behind the word.
+fn opened_line(
+    alloc: Global,
+    word: &str,
+    number: u32,
+    value: &OpenedBid,
+) -> Result<String, NoMemory>
+    ensures { IfOk result (λ line. string_bytes line ≡ opened_line word.now number value.now) }
+{
+    let seat = value.seat;
+    let sum = value.bid.get();
+    let first = opening_fields(alloc, &value.first)?;
+    let second = opening_fields(alloc, &value.second)?;
+    let line = format!(in alloc; "lane {number} seat {seat} {word} {sum} u {first} v {second}\n")?;
     Ok(line)
 }
 
@@ -41,7 +71,7 @@ pub fn extraction_lines(alloc: Global, found: &Extracted) -> Result<Vec<String>,
 {
     let mut lines = Vec::new(alloc);
     let lanes = found.lanes.as_slice();
-    add_lanes(alloc, lanes, &mut lines)?;
+    add_lanes(alloc, "bid", lanes, &mut lines)?;
     let line = sale_line(alloc, &found.front.head)?;
     lines.push(line)?;
     add_agreements(alloc, found.front.seals.as_slice(), lanes, &mut lines)?;
@@ -81,20 +111,8 @@ fn sold_line(alloc: Global, head: &Head, seat: u16) -> Result<String, NoMemory>
     Ok(line)
 }
 
-/// Appends the lines of the lanes' bids.
-fn add_lanes(alloc: Global, lanes: &[LaneBids], lines: &mut Vec<String>) -> Result<(), NoMemory>
-    ensures { OnOk result (flat_map string_bytes lines.new.items
-        ≡ flat_map string_bytes lines.old.items ++ flat_map lane_bids_text lanes.now) }
-{
-    for lane in lanes {
-        let mut bids = lane_bids_lines(alloc, lane)?;
-        lines.append(&mut bids)?;
-    }
-    Ok(())
-}
-
-/// Appends a line for each seal.
-fn add_agreements(
+/// Appends a line for each seal: whether its values are equal in all lanes.
+pub fn add_agreements(
     alloc: Global,
     seals: &[SealLines],
     lanes: &[LaneBids],

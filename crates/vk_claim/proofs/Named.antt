@@ -1,13 +1,12 @@
 -- What named files come to, from what is read of their first lines on.
-use Rattle.std.proofs.Common.{◌≡◌, ℕ, List, Result, Ok, Err, refl, ap, sym, ◌∙◌}
+use Rattle.std.proofs.Common.{◌≡◌, ℕ, List, Ok, ap, sym, ◌∙◌}
 use Rattle.vk_residue.specs.Steps.{◌>>=◌}
 use Rattle.vk_io.specs.Files.{Files}
-use Rattle.vk_lines.specs.Lines.{Rest}
-use Rattle.vk_judge.specs.declared.answers.VErr.{VErr}
 use Rattle.vk_judge.specs.Begun.{five_rests, of_attempt, of_files, three_rests}
 use Rattle.vk_judge.specs.Opened.{file_coming, file_judged}
 use Rattle.vk_judge.proofs.Attempts.{attempt_begun, files_begun}
 use Rattle.vk_bids.specs.FileExtraction.{file_extraction}
+use Rattle.vk_bids.proofs.Named.{step_after}
 use Rattle.vk_claim.specs.Values.{Plans}
 use Rattle.vk_claim.specs.Claims.{claim_at}
 use Rattle.vk_claim.specs.Verdicts.{claim_judged_on, claim_verdict_at, claim_verdict_on, verdict_by}
@@ -21,19 +20,13 @@ module _ (plans : Plans) (files : Files) (file challenge reply : List ℕ) where
   unfolding claim_judged_on
   judged_begun = attempt_begun (file_judged (claim_at plans)) files file challenge reply
 
-  by_rests : (rests : Result (Rest × Rest × Rest) VErr)
-      → (rests >>= λ r. Ok (claim_verdict_at plans r.0 r.1 r.2))
-      ≡ ((rests >>= λ r. Ok (file_judged (claim_at plans) r.0 r.1 r.2)) >>= λ judged.
-      Ok (verdict_by judged))
-  by_rests (Ok rests) = refl
-  by_rests (Err fault) = refl
-
   pub verdict_judged : claim_verdict_on plans files file challenge reply
       ≡ (claim_judged_on plans files file challenge reply >>= λ judged. Ok (verdict_by judged))
   unfolding claim_verdict_on
   verdict_judged =
       attempt_begun (claim_verdict_at plans) files file challenge reply
-      ∙ (by_rests (of_attempt three_rests files file challenge reply)
+      ∙ (step_after (of_attempt three_rests files file challenge reply)
+      (λ rests. file_judged (claim_at plans) rests.0 rests.1 rests.2) verdict_by
       ∙ ap (λ judged. judged >>= λ judged. Ok (verdict_by judged)) (sym judged_begun))
 
 module _ (plans : Plans) (files : Files) (file challenge reply other second : List ℕ) where

@@ -1,6 +1,5 @@
 // The circuit of a sum file.
-ghost use Rattle.std.specs.Prelude.{◌≡◌, ◌<◌, ◌≤◌, ℕ, [], IsNone, IfOk, IfSome};
-ghost use Rattle.vk_residue.specs.Residue.{modulus, negative};
+ghost use Rattle.std.specs.Prelude.{◌≡◌, ◌<◌, ◌≤◌, ℕ, IsNone, IfOk, IfSome};
 ghost use Rattle.vk_range.specs.Sets.{plus};
 ghost use Rattle.vk_form_tests.specs.Sums.{SumTo, input_ranges, sum_plan, sum_values, total_form};
 ghost use Rattle.vk_form_tests.specs.SumLaws.{sum_begins, sum_complete, sum_is_plan, sum_sound};
@@ -13,7 +12,7 @@ use vk_seq::Seq;
 
 /// The circuit that shows, of three hidden numbers, that each is below 2^3 and that they come to a
 /// published total.
-#[derive(Clone, Copy, Debug)]
+#[derive(Clone, Copy)]
 pub struct SumPlan {
     /// At most 21.
     pub total: u64,

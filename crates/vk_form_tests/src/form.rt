@@ -9,7 +9,7 @@ use vk_lines::{Lines, ReadErr, push_hex_line, push_line, push_number_line};
 use vk_residue::NoMemory;
 
 /// What a sum file says before its first seal.
-#[derive(Clone, Copy, Debug, PartialEq, Eq)]
+#[derive(Clone, Copy)]
 pub struct SumHead {
     pub auction: [u8; 16],
     /// What the three sealed numbers come to, at most 21.

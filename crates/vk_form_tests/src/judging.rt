@@ -1,6 +1,4 @@
 // What is judged and extracted of sum files.
-#![tactic(auto, using(crate::proofs::Opening::sum_begun, crate::proofs::Opening::sum_extraction_begun))]
-
 ghost use Rattle.std.specs.Prelude.{◌≡◌, IfOk, IfSome};
 ghost use Rattle.std.specs.FinMap as map;
 ghost use Rattle.vk_lines.specs.Gives.{Gives};
@@ -84,6 +82,7 @@ pub fn open<S: Shelf>(
 ///
 /// Errs where a file is missing or longer than 2^30 bytes, and names the first that is; where the
 /// shelf fails; and for want of memory.
+#[tactic(auto, using(crate::proofs::Opening::sum_begun))]
 pub fn judge<S: Shelf>(
     alloc: Global,
     shelf: &mut S,

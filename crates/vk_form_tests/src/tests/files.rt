@@ -1,5 +1,5 @@
 // A sum file and the replies to two challenges, as an honest prover makes them.
-ghost use Rattle.std.specs.Prelude.{◌≡◌, ◌<◌, ◌≤◌, IfOk};
+ghost use Rattle.std.specs.Prelude.{◌≡◌, ◌≤◌, IfOk, length};
 ghost use Rattle.vk_plan.specs.Plans.{Holds};
 ghost use Rattle.vk_form_tests.specs.Sums.{SumTo};
 
@@ -10,7 +10,7 @@ use vk_board::{LaneLines, SealLines, lane_text, seal_lines_text};
 use vk_dice::ChaChaWords;
 use vk_io::{MemShelf, Shelf};
 use vk_plan::{Circuit, Plan};
-use vk_prover::{answer_lane, draw_tape, make_lane};
+use vk_prover::{LaneTape, answer_lane, draw_tape, make_lane};
 use vk_reply::{reply_head_text, reply_lane_text};
 use vk_residue::{NoMemory, Residue};
 use vk_seal::{Secret, make_seal};
@@ -30,17 +30,11 @@ struct Lane {
     one: Seq<Shown>,
 }
 
-/// The files `file`, the challenges `01` and `10`, and `to 01` and `to 10`, the replies to them;
-/// and `other`, a reply to the first by a prover who drew other keys.
-pub fn shelf_of_files(alloc: Global) -> Result<MemShelf, Fail> {
-    let mut shelf = MemShelf::new(alloc);
-    put_files(alloc, &mut shelf)?;
-    Ok(shelf)
-}
+// What is written and tried is borrowed: no error drops it, and so it is proved fast.
 
-// What is written and tried below is borrowed: no error drops it, and so it is proved fast.
-
-fn put_files(alloc: Global, shelf: &mut MemShelf) -> Result<(), Fail> {
+/// Writes the files `file`, the challenges `01` and `10`, and `to 01` and `to 10`, the replies to
+/// them; and `other`, a reply to the first by a prover who drew other keys.
+pub fn put_files(alloc: Global, shelf: &mut MemShelf) -> Result<(), Fail> {
     shelf.put_file("01", b"vickrey-challenge 1\nbits 01\nend\n")?;
     shelf.put_file("10", b"vickrey-challenge 1\nbits 10\nend\n")?;
     let numbers = [
@@ -78,19 +72,35 @@ fn put_front(alloc: Global, shelf: &mut MemShelf, total: u64) -> Result<Seq<Secr
         auction: AUCTION,
         total,
     };
-    shelf.append("file", head.text(alloc)?.as_slice())?;
+    put(shelf, "file", head.text(alloc))?;
     let mut secrets = Seq::new(alloc);
     for (seat, number) in [(1, 7), (2, 0), (3, 5)] {
-        let mut words = ChaChaWords::of(&[seat as u8; 32], &AUCTION, 0);
-        let (secret, seal) = make_seal(alloc, number, seat, &AUCTION, 3, 2, &mut words)?;
-        let lines = SealLines {
-            seat,
-            coms: seal.lanes,
-        };
-        shelf.append("file", seal_lines_text(alloc, &lines)?.as_slice())?;
+        let secret = put_seal(alloc, shelf, seat, number)?;
         secrets.push(secret)?;
     }
     Ok(secrets)
+}
+
+/// Writes the seal of that seat, and gives its secret.
+fn put_seal(alloc: Global, shelf: &mut MemShelf, seat: u16, number: u64) -> Result<Secret, Fail>
+    requires some { 1 ≤ seat }
+    requires byte { seat ≤ 255 }
+{
+    let mut words = ChaChaWords::of(&[seat as u8; 32], &AUCTION, 0);
+    let (secret, seal) = make_seal(alloc, number, seat, &AUCTION, 3, 2, &mut words)?;
+    let lines = SealLines {
+        seat,
+        coms: seal.lanes,
+    };
+    put(shelf, "file", seal_lines_text(alloc, &lines))?;
+    Ok(secret)
+}
+
+/// Appends the text to the file of that name.
+fn put(shelf: &mut MemShelf, name: &str, text: Result<Vec<u8>, NoMemory>) -> Result<(), Fail> {
+    let text = text?;
+    shelf.append(name, text.as_slice())?;
+    Ok(())
 }
 
 /// Writes the lanes and the end of the file, and the replies.
@@ -117,8 +127,8 @@ fn put_made(
     second: &Lane,
     other: &Lane,
 ) -> Result<(), Fail> {
-    shelf.append("file", lane_text(alloc, 1, &first.lines)?.as_slice())?;
-    shelf.append("file", lane_text(alloc, 2, &second.lines)?.as_slice())?;
+    put(shelf, "file", lane_text(alloc, 1, &first.lines))?;
+    put(shelf, "file", lane_text(alloc, 2, &second.lines))?;
     shelf.append("file", b"end\n")?;
     put_reply(alloc, shelf, "to 01", &first.zero, &second.one)?;
     put_reply(alloc, shelf, "to 10", &first.one, &second.zero)?;
@@ -134,15 +144,9 @@ fn put_reply(
     first: &Seq<Shown>,
     second: &Seq<Shown>,
 ) -> Result<(), Fail> {
-    shelf.append(name, reply_head_text(alloc, 2)?.as_slice())?;
-    shelf.append(
-        name,
-        reply_lane_text(alloc, 1, first.as_slice())?.as_slice(),
-    )?;
-    shelf.append(
-        name,
-        reply_lane_text(alloc, 2, second.as_slice())?.as_slice(),
-    )?;
+    put(shelf, name, reply_head_text(alloc, 2))?;
+    put(shelf, name, reply_lane_text(alloc, 1, first.as_slice()))?;
+    put(shelf, name, reply_lane_text(alloc, 2, second.as_slice()))?;
     shelf.append(name, b"end\n")?;
     Ok(())
 }
@@ -158,19 +162,41 @@ fn lane_of(
 ) -> Result<Lane, Fail>
     requires { Holds plan.now values.now }
 {
-    let mut given = Vec::new(alloc);
-    for secret in secrets {
-        given.push(given_tape(secret, lane)?)?;
-    }
+    let given = given_tapes(alloc, secrets, lane)?;
     if plan.inputs() as usize != given.len() {
         return Err("not a seal for each input".into());
     }
     let mut words = ChaChaWords::of(&[seed; 32], &AUCTION, u64::from(lane));
     let tape = draw_tape(alloc, plan, given.as_slice(), &mut words)?;
-    let lines = make_lane(alloc, plan, &AUCTION, lane, values, &tape)?;
-    let zero = answer_lane(alloc, plan, values, &tape, false)?;
-    let one = answer_lane(alloc, plan, values, &tape, true)?;
+    let made = lane_with(alloc, plan, values, lane, &tape)?;
+    Ok(made)
+}
+
+/// The lane of that number, of this tape.
+fn lane_with(
+    alloc: Global,
+    plan: &Plan,
+    values: &[Residue],
+    lane: u16,
+    tape: &LaneTape,
+) -> Result<Lane, NoMemory>
+    requires holds { Holds plan.now values.now }
+    requires one_each { length tape.now.wires ≡ length plan.now.kinds }
+{
+    let lines = make_lane(alloc, plan, &AUCTION, lane, values, tape)?;
+    let zero = answer_lane(alloc, plan, values, tape, false)?;
+    let one = answer_lane(alloc, plan, values, tape, true)?;
     Ok(Lane { lines, zero, one })
+}
+
+/// The tapes of the seals in the lane of that number.
+fn given_tapes(alloc: Global, secrets: &[Secret], lane: u16) -> Result<Vec<WireTape>, Fail> {
+    let mut given = Vec::new(alloc);
+    for secret in secrets {
+        let tape = given_tape(secret, lane)?;
+        given.push(tape)?;
+    }
+    Ok(given)
 }
 
 /// The tape of the seal in the lane of that number, from 1.

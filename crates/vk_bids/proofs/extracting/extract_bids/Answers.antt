@@ -6,7 +6,7 @@ use Rattle.vk_extractor.specs.Refused.{IsRefusalOf}
 use Rattle.vk_bids.specs.declared.bids.OpenedBid.{OpenedBid}
 use Rattle.vk_bids.specs.Bids.{opened_bids}
 use Rattle.vk_bids.specs.Opening.{OpensTwice, OpensValues}
-use Rattle.vk_bids.proofs.Showing.{case_opens, refusal_opens}
+use Rattle.vk_bids.proofs.Showing.{case_gives, refusal_opens}
 use Rattle.vk_bids.proofs.extracting.extract_bids.Goals as goal
 
 pub returns-clause-opens : goal.returns-clause-opens
@@ -17,9 +17,9 @@ returns-clause-opens c =
     c.args.zero.now c.args.one.now) c.seals.ensures.value in
     let P : List OpenedBid → Type 0 = λ bids. OpensValues s c.args.lane bids in
     subst P (sym bids)
-    (case_opens s c.args.lane c.args.case.now c.args.zero.now c.args.one.now
+    ((case_gives s c.args.lane c.args.case.now c.args.zero.now c.args.one.now
     c.seals.ensures.right c.requires.first c.requires.last c.requires.case c.requires.zero
-    c.requires.one c.in_ok-_values.ensures.agree)
+    c.requires.one).0 c.in_ok-_values.ensures.agree)
 
 pub returns-in_err-_values-clause-opened_twice : goal.returns-in_err-_values-clause-opened_twice
 returns-in_err-_values-clause-opened_twice c =

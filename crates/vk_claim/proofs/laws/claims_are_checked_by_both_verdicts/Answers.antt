@@ -1,6 +1,5 @@
 use Rattle.vk_judge.proofs.FileForms.{accepted_give, finds_by_both}
 use Rattle.vk_bids.proofs.FileHeadline.{extracts_by_finding}
-use Rattle.vk_claim.specs.Acceptance.{claim_form}
 use Rattle.vk_claim.specs.Claims.{claim_at}
 use Rattle.vk_claim.proofs.Fronts.{is_form}
 use Rattle.vk_claim.proofs.Opening.{claim_files_give}
@@ -11,13 +10,12 @@ returns-clause-found g c circuits = finds_by_both (claim_at (g.Q.Circuits.admitt
 
 pub returns-clause-extracted : goal.returns-clause-extracted
 returns-clause-extracted g c circuits =
-    let plans = g.Q.Circuits.admitted circuits in
-    extracts_by_finding (claim_form plans) (is_form plans (g.met.Q.Circuits.is_plan circuits))
+    extracts_by_finding _
+    (is_form (g.Q.Circuits.admitted circuits) (g.met.Q.Circuits.is_plan circuits))
 
 pub returns-clause-given : goal.returns-clause-given
 returns-clause-given g c circuits =
-    let plans = g.Q.Circuits.admitted circuits in
-    accepted_give (claim_form plans) (is_form plans (g.met.Q.Circuits.is_plan circuits))
+    accepted_give _ (is_form (g.Q.Circuits.admitted circuits) (g.met.Q.Circuits.is_plan circuits))
 
 pub returns-clause-files : goal.returns-clause-files
 returns-clause-files g c circuits = claim_files_give (g.Q.Circuits.admitted circuits)
