@@ -13,7 +13,7 @@ mod words;
 
 pub use cases::{behind, id_at, key_at, number_at, numbers_in, read_cases, residue_at, word_at};
 pub use counting::lines_in;
-pub use parts::{before, place_of, text_in};
+pub use parts::{before, cut, place_of, text_in};
 pub use replaying::{Form, Replay, Replayed, replay_forms, replay_here};
 pub use text::Text;
 pub use unreplayed::{Tried, Unreplayed};

@@ -1,7 +1,15 @@
 // Parts of texts. Loops with a condition stand here in place of adaptors of iterators, of which
 // each takes ten seconds to prove.
+use crate::cases::behind;
 use crate::unreplayed::{Tried, Unreplayed};
 use std::str::from_utf8;
+
+/// What stands before the first of these bytes, and what stands behind it: nothing where it has
+/// none.
+pub fn cut(text: &[u8], mark: u8) -> (&[u8], &[u8]) {
+    let place = place_of(text, mark);
+    (before(text, place), behind(text, place.saturating_add(1)))
+}
 
 /// The place of the first of these bytes, or the length.
 pub fn place_of(text: &[u8], mark: u8) -> usize {

@@ -1,6 +1,7 @@
 // What comes of a case, as it is written.
 use crate::unreplayed::{Tried, Unreplayed};
 use std::alloc::Global;
+use vk_io::Sink;
 use vk_lines::{push_decimal, push_hex};
 
 /// Bytes that are appended to, and whether there was memory for all of them, which is answered once
@@ -46,6 +47,12 @@ impl Text {
         }
     }
 
+    /// Appends a mark and the number behind it as a line.
+    pub fn put_count(&mut self, mark: &[u8], number: u64) {
+        self.put_number(mark, number);
+        self.put(b"\n");
+    }
+
     /// Appends a mark, and behind it the bytes as lower-case hexadecimal.
     pub fn put_hex(&mut self, mark: &[u8], bytes: &[u8]) {
         self.put(mark);
@@ -60,6 +67,11 @@ impl Text {
         for bit in bits {
             self.put(if *bit { b"1" } else { b"0" });
         }
+    }
+
+    /// How many bytes are written.
+    pub fn len(&self) -> usize {
+        self.bytes.len()
     }
 
     /// The bytes that are written, where there was memory for all.
@@ -79,5 +91,11 @@ impl Text {
         } else {
             Err(Unreplayed::NoMemory)
         }
+    }
+
+    /// Prints them.
+    pub fn print<W: Sink>(&self, out: &mut W) -> Tried<()> {
+        out.put(self.bytes()?)?;
+        Ok(())
     }
 }
