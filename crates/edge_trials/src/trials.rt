@@ -4,10 +4,10 @@ use crate::faulty::Faulty;
 use crate::output::Output;
 use crate::plan::{Call, Fault, Plan, Wrong};
 use crate::room::Room;
-use crate::steps::{push, take_step};
+use crate::steps::{push, take_step, text_in};
 use memchr::memchr;
 use std::io::ErrorKind;
-use vk_cases::{Tried, Unreplayed, behind, text_in, word_at};
+use vk_cases::{Tried, Unreplayed, behind, word_at};
 use vk_io::Sink;
 use vk_lines::{end_line, push_decimal};
 
