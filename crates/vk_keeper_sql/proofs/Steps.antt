@@ -103,6 +103,12 @@ module _ {S T U E F : Type 0} {g : Ghosts S} {A : T → Held S → Held S → Ty
   stopped_as told step so =
       refused_as told step (λ why. record { stops = λ inside. so (why.stops inside) })
 
+  -- of a step whose refusal is told wherever it is refused
+  pub asked_as : {old new : Held S} {e : E} {result : Result U F} (told : F)
+      → WorksInside g A R old new (Err e) → (R old new e → Q old new told) → result ≡ Err told
+      → WorksInside g B (WhereBegun g Q) old new result
+  asked_as told step so = refused_as told step (λ why. record { stops = λ _. so why })
+
 -- ---- statements one behind another
 
 -- none of them

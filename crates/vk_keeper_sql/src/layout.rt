@@ -1,7 +1,7 @@
 //! Whether the tables of a store are a keeper's, by their names, columns, types and keys.
 
 ghost use Rattle.std.specs.Prelude.{◌≡◌, ◌↔◌, false, [], ◌∷◌, map, IsTrue};
-ghost use Rattle.vk_keeper_sql.specs.Layouts.{AreFirst, Has, HasLayout, HasShape, IsPlain, about_shape, auction_shape, seal_shape, terms_shape, shape_named, shape_of};
+ghost use Rattle.vk_keeper_sql.specs.Layouts.{AreFirst, Has, HasLayout, HasShape, IsPlain, terms_shape, shape_named, shape_of};
 
 use sqlite_schema::schema::{Column, Kind, Schema, Table};
 
@@ -74,58 +74,49 @@ fn is_table(table: &Table, name: TableName) -> bool
     ensures { IsTrue result ↔ HasShape (shape_named name) table.now }
 {
     match name {
-        TableName::About => is_about(table),
-        TableName::Auction => is_auction(table),
-        TableName::Seal => is_seal(table),
-        TableName::Terms => is_terms(table),
+        TableName::About => {
+            let columns = [("version", Kind::Integer, true)];
+            has_columns(table, "about", &columns) && table.uniques.is_empty()
+        }
+        TableName::Auction => {
+            let columns = [
+                ("id", Kind::Any, true),
+                ("width", Kind::Integer, true),
+                ("lanes", Kind::Integer, true),
+                ("phase", Kind::Integer, true),
+                ("seed", Kind::Any, false),
+                ("bits", Kind::Text, false),
+            ];
+            has_columns(table, "auction", &columns) && is_by_id(table)
+        }
+        TableName::Seal => {
+            let columns = [
+                ("id", Kind::Any, true),
+                ("position", Kind::Integer, true),
+                ("seat", Kind::Integer, true),
+                ("seal", Kind::Text, true),
+                ("secret", Kind::Text, true),
+            ];
+            has_columns(table, "seal", &columns) && is_by_place(table)
+        }
+        TableName::Terms => {
+            let columns = [
+                ("id", Kind::Any, true),
+                ("version", Kind::Integer, true),
+                ("reserve", Kind::Integer, true),
+            ];
+            has_columns(table, "terms", &columns) && is_by_id(table)
+        }
     }
 }
 
-fn is_about(table: &Table) -> bool
-    ensures { IsTrue result ↔ HasShape about_shape table.now }
+/// Whether the table has that name and these columns, and no rule but them and its keys.
+fn has_columns(table: &Table, name: &str, columns: &[(&str, Kind, bool)]) -> bool
+    ensures { IsTrue result ↔ IsPlain name.now table.now × (map shape_of table.now.columns
+        ≡ map (λ w. record { name = w.0.now; kind = w.1; not_null = w.2; is_strict = false })
+        columns.now) }
 {
-    let columns = [("version", Kind::Integer, true)];
-    is_plain(table, "about")
-        && are_columns(table.columns.as_slice(), &columns)
-        && table.uniques.is_empty()
-}
-
-fn is_auction(table: &Table) -> bool
-    ensures { IsTrue result ↔ HasShape auction_shape table.now }
-{
-    let columns = [
-        ("id", Kind::Any, true),
-        ("width", Kind::Integer, true),
-        ("lanes", Kind::Integer, true),
-        ("phase", Kind::Integer, true),
-        ("seed", Kind::Any, false),
-        ("bits", Kind::Text, false),
-    ];
-    is_plain(table, "auction") && are_columns(table.columns.as_slice(), &columns) && is_by_id(table)
-}
-
-fn is_seal(table: &Table) -> bool
-    ensures { IsTrue result ↔ HasShape seal_shape table.now }
-{
-    let columns = [
-        ("id", Kind::Any, true),
-        ("position", Kind::Integer, true),
-        ("seat", Kind::Integer, true),
-        ("seal", Kind::Text, true),
-        ("secret", Kind::Text, true),
-    ];
-    is_plain(table, "seal") && are_columns(table.columns.as_slice(), &columns) && is_by_place(table)
-}
-
-fn is_terms(table: &Table) -> bool
-    ensures { IsTrue result ↔ HasShape terms_shape table.now }
-{
-    let columns = [
-        ("id", Kind::Any, true),
-        ("version", Kind::Integer, true),
-        ("reserve", Kind::Integer, true),
-    ];
-    is_plain(table, "terms") && are_columns(table.columns.as_slice(), &columns) && is_by_id(table)
+    is_plain(table, name) && are_columns(table.columns.as_slice(), columns)
 }
 
 /// Whether the table has that name, and no rule but its columns and keys.

@@ -6,8 +6,6 @@ ghost use Rattle.vk_keeper_sql.specs.Statements.{keep_terms};
 ghost use Rattle.vk_keeper_sql.specs.Transactions.{RunsAllInside, RunsInside, WritesInside};
 ghost use Rattle.vk_keeper_sql.specs.Opening.{LiftsTables, filling, first_terms};
 ghost use Rattle.vk_keeper_sql.specs.Unopened.{StopsLifting};
-ghost use Rattle.sqlite.specs.Value.{owned};
-ghost use Rattle.sqlite.specs.Values.{bound};
 
 use crate::statements::{KEEP_TERMS, ask, run};
 use crate::tables::{MAKE_TERMS, VERSION};
@@ -47,6 +45,7 @@ fn add_terms<S: Alter>(transaction: &mut Transaction<'_, S>, ids: &[Row]) -> Res
 }
 
 /// Puts the terms for the id of this row.
+#[tactic(auto, unfolding(crate::specs::Statements::keep_terms))]
 fn add_first_terms<S: Alter>(
     transaction: &mut Transaction<'_, S>,
     row: &Row,
@@ -55,15 +54,7 @@ fn add_first_terms<S: Alter>(
     ensures works { RunsInside S.Store keep_terms (first_terms (column row.now 0))
         transaction.old.conn.now transaction.new.conn.now result }
 {
-    let id = value_at(row, 0);
-    let columns = first_columns(id);
-    run(transaction, KEEP_TERMS, &columns)?;
-    Ok(())
-}
-
-/// This id, whatever it is, with the version 1 and no reserve.
-fn first_columns(id: ValueRef<'_>) -> [ValueRef<'_>; 3]
-    ensures { bound result ≡ first_terms (owned id.entry) }
-{
-    [id, ValueRef::Int(1), ValueRef::Int(0)]
+    let columns = [value_at(row, 0), ValueRef::Int(1), ValueRef::Int(0)];
+    let ran = run(transaction, KEEP_TERMS, &columns);
+    ran
 }

@@ -1,7 +1,6 @@
 //! Keeps the seals of an auction in the store.
 
 ghost use Rattle.std.specs.Prelude.{◌≡◌, ◌+◌, ◌≤◌, pos, [], ◌∷◌, length};
-ghost use Rattle.sqlite.specs.Values.{bound};
 ghost use Rattle.sqlite.specs.declared.types.Value.TheVariants.{Int, Blob};
 ghost use Rattle.vk_rows.specs.Columns.{seal_row};
 ghost use Rattle.vk_keeper_sql.specs.Statements.{drop_seals, keep_seal};
@@ -42,6 +41,7 @@ pub fn write_seals<S: Alter>(
 }
 
 /// Drops the rows of the seals but for so many from the first position on.
+#[tactic(auto, unfolding(crate::specs::Statements::drop_seals))]
 fn clear_seals<S: Alter>(
     transaction: &mut Transaction<'_, S>,
     id: &[u8; 16],
@@ -51,19 +51,12 @@ fn clear_seals<S: Alter>(
     ensures works { RunsInside S.Store drop_seals (Blob id.now ∷ Int (pos standing) ∷ [])
         transaction.old.conn.now transaction.new.conn.now result }
 {
-    let columns = clear_columns(id, standing);
-    run(transaction, DROP_SEALS, &columns)?;
-    Ok(())
-}
-
-/// The id, and how many rows of seals are left alone.
-fn clear_columns(id: &[u8; 16], standing: u32) -> [ValueRef<'_>; 2]
-    ensures { bound result ≡ Blob id.now ∷ Int (pos standing) ∷ [] }
-{
-    [
+    let columns = [
         ValueRef::Blob(id.as_slice()),
         ValueRef::Int(i64::from(standing)),
-    ]
+    ];
+    let ran = run(transaction, DROP_SEALS, &columns);
+    ran
 }
 
 /// Writes the rows of these seals at the positions behind so many.
@@ -85,30 +78,24 @@ fn add_seals<S: Alter>(
 }
 
 /// Writes the row of one seal.
-fn add_seal<S: Alter>(
+#[tactic(auto, unfolding(crate::specs::Statements::keep_seal))]
+fn add_seal<'a, S: Alter>(
     transaction: &mut Transaction<'_, S>,
-    id: &[u8; 16],
+    id: &'a [u8; 16],
     position: u32,
-    seal: &SealTexts,
+    seal: &'a SealTexts,
 ) -> Result<(), OutsideErr>
     ensures same_reference { transaction.new.conn.ghost_name ≡ transaction.old.conn.ghost_name }
     ensures works { RunsInside S.Store keep_seal (seal_row id.now position seal.now)
         transaction.old.conn.now transaction.new.conn.now result }
 {
-    let columns = seal_columns(id, position, seal);
-    run(transaction, KEEP_SEAL, &columns)?;
-    Ok(())
-}
-
-/// The row of a seal.
-fn seal_columns<'a>(id: &'a [u8; 16], position: u32, seal: &'a SealTexts) -> [ValueRef<'a>; 5]
-    ensures { bound result ≡ seal_row id.now position seal.now }
-{
-    [
+    let columns = [
         ValueRef::Blob(id.as_slice()),
         ValueRef::Int(i64::from(position)),
         ValueRef::Int(i64::from(seal.seat)),
         ValueRef::Text(seal.seal.as_slice()),
         ValueRef::Text(seal.secret.as_slice()),
-    ]
+    ];
+    let ran = run(transaction, KEEP_SEAL, &columns);
+    ran
 }

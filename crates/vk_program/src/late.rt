@@ -135,13 +135,13 @@ impl<H: HousePlace> LateKeeper<H> {
     /// The auction of that id, by the keeper that is open.
     fn ask(&mut self, id: &[u8; 16]) -> Result<Option<Auction>, OutsideErr>
         requires { IsSome self.old.kept }
-        ensures answer { IfSome (told_by H.Kept.ledger (H.ledger self.old.house) self.old.kept)
-            (λ ledger. IfOk result (λ found. found ≡ map.get ledger id.now)) }
-        ensures id { IfOk result (λ found. IfSome found (λ auction. auction.id ≡ id.now)) }
-        ensures right { IfOk result (λ found. IfSome found IsAuction) }
+        ensures open { IsSome self.new.kept }
         ensures ledger { IfSome (told_by H.Kept.ledger (H.ledger self.old.house) self.old.kept)
             IsLedger }
-        ensures open { IsSome self.new.kept }
+        ensures answer { IfSome (told_by H.Kept.ledger (H.ledger self.old.house) self.old.kept)
+            (λ ledger. IfOk result (λ found. found ≡ map.get ledger id.now)) }
+        ensures right { IfOk result (λ found. IfSome found IsAuction) }
+        ensures id { IfOk result (λ found. IfSome found (λ auction. auction.id ≡ id.now)) }
         ensures kept { told_by H.Kept.ledger (H.ledger self.new.house) self.new.kept
             ≡ told_by H.Kept.ledger (H.ledger self.old.house) self.old.kept }
         ensures causes { Causes OutsideErr.Failed result (H.faults self.old.house)
@@ -152,37 +152,6 @@ impl<H: HousePlace> LateKeeper<H> {
     {
         let found = found_in(&mut self.kept, id);
         self.hand_on(found)
-    }
-
-    /// The auction of that id, by the keeper of the house. In a house that isn't made there is
-    /// none, and it stays so.
-    #[tactic(auto, using(crate::proofs::Nothing::nothing_found, crate::proofs::Nothing::nothing_kept))]
-    fn find(&mut self, id: &[u8; 16]) -> Result<Option<Auction>, OutsideErr>
-        ensures answer { IfSome (told_by H.Kept.ledger (H.ledger self.old.house) self.old.kept)
-            (λ ledger. IfOk result (λ found. found ≡ map.get ledger id.now)) }
-        ensures id { IfOk result (λ found. IfSome found (λ auction. auction.id ≡ id.now)) }
-        ensures right { IfOk result (λ found. IfSome found IsAuction) }
-        ensures ledger { IfSome (told_by H.Kept.ledger (H.ledger self.old.house) self.old.kept)
-            IsLedger }
-        ensures kept { told_by H.Kept.ledger (H.ledger self.new.house) self.new.kept
-            ≡ told_by H.Kept.ledger (H.ledger self.old.house) self.old.kept }
-        ensures unmade { H.unmade self.old.house → self.old.kept ≡ None
-            → H.unmade self.new.house × (self.new.kept ≡ None) }
-        ensures causes { Causes OutsideErr.Failed result (H.faults self.old.house)
-            (H.faults self.new.house) }
-        ensures unopened { IfOk result (λ found. self.new.kept ≡ None
-            → (found ≡ None) × IsTrue self.new.was_unmade) }
-        ensures noted { IsTrue self.old.was_unmade → IsTrue self.new.was_unmade }
-        ensures turns { self.new.turns ≡ self.old.turns }
-    {
-        match self.open_made() {
-            Ok(true) => self.ask(id),
-            Ok(false) => {
-                self.was_unmade = true;
-                Ok(None)
-            }
-            Err(refusal) => Err(refusal.outside()),
-        }
     }
 
     /// Errs where an auction of that id is kept by now: another program announced it after this one
@@ -211,52 +180,6 @@ impl<H: HousePlace> LateKeeper<H> {
             return self.hand_on(Err(OutsideErr::Failed));
         }
         Ok(())
-    }
-
-    /// Keeps the auction, by the keeper that is open.
-    #[tactic(auto, using(crate::proofs::Meanwhile::done_with))]
-    fn keep(&mut self, auction: Auction) -> Result<(), OutsideErr>
-        requires right { IsAuction auction }
-        requires open { IsSome self.old.kept }
-        ensures ledger { IfSome (told_by H.Kept.ledger (H.ledger self.old.house) self.old.kept)
-            IsLedger }
-        ensures put { Modelled (Keeps auction result)
-            (told_by H.Kept.ledger (H.ledger self.old.house) self.old.kept)
-            (told_by H.Kept.ledger (H.ledger self.new.house) self.new.kept) }
-        ensures causes { Causes OutsideErr.Failed result (H.faults self.old.house)
-            (H.faults self.new.house) }
-        ensures fresh { IsTrue self.old.was_unmade → OnOk result (IfSome
-            (told_by H.Kept.ledger (H.ledger self.old.house) self.old.kept)
-            (λ ledger. map.get ledger auction.id ≡ None)) }
-        ensures turns { self.new.turns ≡ self.old.turns }
-    {
-        if self.was_unmade {
-            self.refuse_known(&auction.id)?;
-            self.was_unmade = false;
-        }
-        let kept = put_into(&mut self.kept, auction);
-        self.hand_on(kept)
-    }
-
-    /// Keeps the auction, by the keeper of the house.
-    fn replace(&mut self, auction: Auction) -> Result<(), OutsideErr>
-        requires { IsAuction auction }
-        ensures ledger { IfSome (told_by H.Kept.ledger (H.ledger self.old.house) self.old.kept)
-            IsLedger }
-        ensures put { Modelled (Keeps auction result)
-            (told_by H.Kept.ledger (H.ledger self.old.house) self.old.kept)
-            (told_by H.Kept.ledger (H.ledger self.new.house) self.new.kept) }
-        ensures causes { Causes OutsideErr.Failed result (H.faults self.old.house)
-            (H.faults self.new.house) }
-        ensures fresh { IsTrue self.old.was_unmade → OnOk result (IfSome
-            (told_by H.Kept.ledger (H.ledger self.old.house) self.old.kept)
-            (λ ledger. map.get ledger auction.id ≡ None)) }
-        ensures turns { self.new.turns ≡ self.old.turns }
-    {
-        match self.open() {
-            Ok(()) => self.keep(auction),
-            Err(refusal) => Err(refusal.outside()),
-        }
     }
 
     /// Closes what was opened, and gives the house back.
@@ -333,6 +256,7 @@ impl<H: HousePlace> Keeper for LateKeeper<H> {
         (λ ledger. IfOk answer (λ found. found ≡ map.get ledger id)) };
 
     /// In a house that isn't made nothing is found, and nothing is made.
+    #[tactic(auto, using(crate::proofs::Nothing::nothing_found, crate::proofs::Nothing::nothing_kept))]
     fn get(&mut self, id: &[u8; 16]) -> Result<Option<Auction>, OutsideErr>
         ensures answer { IfSome (told_by H.Kept.ledger (H.ledger self.old.house) self.old.kept)
             (λ ledger. IfOk result (λ found. found ≡ map.get ledger id.now)) }
@@ -352,11 +276,19 @@ impl<H: HousePlace> Keeper for LateKeeper<H> {
             (H.faults self.new.house) }
     {
         self.turns.count_get();
-        self.find(id)
+        match self.open_made() {
+            Ok(true) => self.ask(id),
+            Ok(false) => {
+                self.was_unmade = true;
+                Ok(None)
+            }
+            Err(refusal) => Err(refusal.outside()),
+        }
     }
 
     /// In a house that was not made when this one asked, an auction that another program announced
     /// since then stays.
+    #[tactic(auto, using(crate::proofs::Meanwhile::done_with))]
     fn put(&mut self, auction: Auction) -> Result<(), OutsideErr>
         requires { IsAuction auction }
         ensures ledger { IfSome (told_by H.Kept.ledger (H.ledger self.old.house) self.old.kept)
@@ -372,6 +304,14 @@ impl<H: HousePlace> Keeper for LateKeeper<H> {
             (H.faults self.new.house) }
     {
         self.turns.count_put();
-        self.replace(auction)
+        if let Err(refusal) = self.open() {
+            return Err(refusal.outside());
+        }
+        if self.was_unmade {
+            self.refuse_known(&auction.id)?;
+            self.was_unmade = false;
+        }
+        let kept = put_into(&mut self.kept, auction);
+        self.hand_on(kept)
     }
 }

@@ -30,7 +30,7 @@ use Rattle.vk_seal.specs.Reading.{tape_by}
 use Rattle.vk_seal.specs.Tables.{seal_table, secret_table}
 use Rattle.vk_seal.proofs.Forms.{seal_is_whole, secret_is_whole, seal_fault, secret_fault}
 use Rattle.vk_rows.specs.Refusals.{MissesNone, start_refusal, text_refusal}
-use Rattle.vk_rows.proofs.Misses.{nowhere}
+use Rattle.vk_rows.proofs.Misses.{nowhere, where_failed}
 
 -- ---- how long they are
 
@@ -147,32 +147,45 @@ secret_reads secret is =
 
 -- ---- what is refused on a shelf of which no call fails
 
-no_text : {Place X T : Type 0} (IsValue : X → Type 0) (text : X → List ℕ) (table : Table Place)
-    → ((x : X) → IsValue x → fault_line table (text x) ≡ None) → (bytes : List ℕ)
-    → (refusal : ReadErr) (result : Result T OutsideErr)
+no_text : {Place X T Y : Type 0} (IsValue : X → Type 0) (text : X → List ℕ) (table : Table Place)
+    (IsThere : Y → Type 0) (bytes : List ℕ) (result : Result T OutsideErr)
+    → ((x : X) → IsValue x → fault_line table (text x) ≡ None)
+    → ((y : Y) → IsThere y → (x : X) × IsValue x × (bytes ≡ text x)) → (refusal : ReadErr)
     → Answers {T = X} IsValue text table (λ (x : X). x) bytes (Err refusal)
     → Causes {T = X} Failed (Err refusal) 0 0 → result ≡ Err (text_refusal refusal)
-    → MissesNone (λ (x : X). IsValue x × (bytes ≡ text x)) result
-no_text IsValue text table reads bytes (Malformed number) result answers causes is =
-    nowhere _ result
-    (λ x there. absurd (let e = sym answers ∙ (ap (fault_line table) there.1
-    ∙ reads x there.0) in cc))
-no_text IsValue text table reads bytes Failed result answers causes is =
+    → MissesNone IsThere result
+no_text IsValue text table IsThere bytes result reads from (Malformed number) answers causes is =
+    nowhere IsThere result (λ y there.
+    let x = from y there in
+    absurd (let e = sym answers ∙ (ap (fault_line table) x.2 ∙ reads x.0 x.1) in cc))
+no_text IsValue text table IsThere bytes result reads from Failed answers causes is =
     absurd (let rose = causes.0 refl in omega (arith, rose))
-no_text IsValue text table reads bytes NoMemory result answers causes is =
-    subst (MissesNone _) (sym is) tt
+no_text IsValue text table IsThere bytes result reads from NoMemory answers causes is =
+    subst (MissesNone IsThere) (sym is) tt
 
 -- a refused reading, but for want of memory, was of no such text
-pub unread : {Place X T : Type 0} (IsValue : X → Type 0) (text : X → List ℕ) (table : Table Place)
-    → ((x : X) → IsValue x → fault_line table (text x) ≡ None) → (bytes : List ℕ)
-    → (read : Result X ReadErr) (result : Result T OutsideErr) → IsErr read
-    → ((refusal : ReadErr) → read ≡ Err refusal → result ≡ Err (text_refusal refusal))
+pub unread : {Place X T Y : Type 0} (IsValue : X → Type 0) (text : X → List ℕ)
+    (table : Table Place) (IsThere : Y → Type 0) (bytes : List ℕ) (result : Result T OutsideErr)
+    → ((x : X) → IsValue x → fault_line table (text x) ≡ None)
+    → ((y : Y) → IsThere y → (x : X) × IsValue x × (bytes ≡ text x)) → (read : Result X ReadErr)
+    → IsErr read → ((refusal : ReadErr) → read ≡ Err refusal → result ≡ Err (text_refusal refusal))
     → Answers IsValue text table (λ (x : X). x) bytes read → Causes Failed read 0 0
-    → MissesNone (λ (x : X). IsValue x × (bytes ≡ text x)) result
-unread IsValue text table reads bytes (Ok x) result refused told answers causes =
+    → MissesNone IsThere result
+unread IsValue text table IsThere bytes result reads from (Ok x) refused told answers causes =
     absurd (let e = refused in cc)
-unread IsValue text table reads bytes (Err refusal) result refused told answers causes =
-    no_text IsValue text table reads bytes refusal result answers causes (told refusal refl)
+unread IsValue text table IsThere bytes result reads from (Err refusal) refused told answers causes =
+    no_text IsValue text table IsThere bytes result reads from refusal answers causes
+    (told refusal refl)
+
+-- no such text has more bytes than are read
+pub unheld : {X T Y : Type 0} (IsValue : X → Type 0) (text : X → List ℕ) (IsThere : Y → Type 0)
+    (bytes : List ℕ) (result : Result T OutsideErr)
+    → ((x : X) → IsValue x → length (text x) ≤ 2 ^ 30)
+    → ((y : Y) → IsThere y → (x : X) × IsValue x × (bytes ≡ text x))
+    → (IsErrOf result outside.Failed → 2 ^ 30 < length bytes) → MissesNone IsThere result
+unheld IsValue text IsThere bytes result short from long =
+    where_failed IsThere result (λ failed y there.
+    let x = from y there in omega (arith, long failed, short x.0 x.1, ap length x.2))
 
 too_long : {T : Type 0} (files : Files) (name text : List ℕ) → bytes_of files name ≡ text
     → IsSome (get files name) → (refusal : StartErr) (result : Result T OutsideErr)

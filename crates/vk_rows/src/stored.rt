@@ -3,9 +3,6 @@
 ghost use Rattle.std.specs.Prelude.{◌≡◌, ◌<◌, ◌^◌, length, IfOk, IsErrOf};
 ghost use Rattle.vk_lines.specs.Lines.{rest_of};
 ghost use Rattle.vk_seal.specs.Texts as form;
-ghost use Rattle.vk_seal.specs.Values.{IsSeal, IsSecret};
-ghost use Rattle.vk_seal.specs.declared.secret.Seal.{Seal as AnySeal};
-ghost use Rattle.vk_seal.specs.declared.secret.Secret.{Secret as AnySecret};
 ghost use Rattle.vk_keeper.specs.declared.auction.SealRow.{SealRow as AnyRow};
 ghost use Rattle.vk_rows.specs.Columns.{IsStored};
 ghost use Rattle.vk_rows.specs.Refusals.{MissesNone};
@@ -16,7 +13,7 @@ use std::alloc::Global;
 use vk_io::OutsideErr;
 use vk_keeper::SealRow;
 use vk_lines::Lines;
-use vk_seal::{Seal, Secret, read_seal, read_secret};
+use vk_seal::{read_seal, read_secret};
 
 /// The name of a stored text on the shelf that it is read from.
 const STORED: &str = "stored";
@@ -34,33 +31,11 @@ pub fn read_texts(
         × (seal_text.now ≡ form.seal_text row.seal)
         × (secret_text.now ≡ form.secret_text row.secret)) result }
 {
-    let seal = seal_in(alloc, seal_text)?;
-    let secret = secret_in(alloc, secret_text)?;
-    Ok(SealRow { seal, secret })
-}
-
-/// The seal of its text.
-fn seal_in(alloc: Global, text: &[u8]) -> Result<Seal, OutsideErr>
-    ensures text { IfOk result (λ seal. text.now ≡ form.seal_text seal) }
-    ensures right { IfOk result IsSeal }
-    ensures exact { MissesNone
-        (λ (seal : AnySeal). IsSeal seal × (text.now ≡ form.seal_text seal)) result }
-{
-    let (mut shelf, mut lines) = lines_of(alloc, text)?;
+    let (mut shelf, mut lines) = lines_of(alloc, seal_text)?;
     let seal = read_seal(alloc, &mut shelf, &mut lines).map_err(refused_text)?;
-    Ok(seal)
-}
-
-/// The secret of its text.
-fn secret_in(alloc: Global, text: &[u8]) -> Result<Secret, OutsideErr>
-    ensures text { IfOk result (λ secret. text.now ≡ form.secret_text secret) }
-    ensures right { IfOk result IsSecret }
-    ensures exact { MissesNone
-        (λ (secret : AnySecret). IsSecret secret × (text.now ≡ form.secret_text secret)) result }
-{
-    let (mut shelf, mut lines) = lines_of(alloc, text)?;
+    let (mut shelf, mut lines) = lines_of(alloc, secret_text)?;
     let secret = read_secret(alloc, &mut shelf, &mut lines).map_err(refused_text)?;
-    Ok(secret)
+    Ok(SealRow { seal, secret })
 }
 
 /// A stored text on a shelf of its own, and a reader before its first line. Errs where it has more

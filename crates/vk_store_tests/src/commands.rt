@@ -33,6 +33,14 @@ pub enum Task<'a> {
     Command(&'a [u8]),
 }
 
+/// A command of the auction of that id.
+#[derive(Clone, Copy)]
+struct Order<'a> {
+    alloc: Global,
+    id: [u8; 16],
+    command: &'a [u8],
+}
+
 impl Task<'_> {
     /// Puts behind the text what the keeper answers.
     pub fn put_done<K: Keeper + Drop>(
@@ -45,8 +53,8 @@ impl Task<'_> {
             Task::Run(_) => Err(Unreplayed::NoCase),
             Task::Find => put_kept_anew(alloc, keeper, text),
             Task::Command(command) => {
-                let (id, command) = named(command)?;
-                put_commanded(alloc, keeper, text, &id, command)
+                let order = named(alloc, command)?;
+                put_commanded(keeper, text, &order)
             }
         }
     }
@@ -103,29 +111,23 @@ fn put_kept<K: Keeper + Drop>(keeper: &mut K, text: &mut Text, id: &[u8; 16]) ->
     put
 }
 
-/// The id of the auction that a command names, and the command behind that.
-fn named(command: &[u8]) -> Tried<([u8; 16], &[u8])> {
-    if text_in(word_at(command, 0)?)? != "of" {
-        return Ok((ID, command));
-    }
+/// A command, of the auction that it names.
+fn named(alloc: Global, command: &[u8]) -> Tried<Order<'_>> {
     let mut id = ID;
+    if text_in(word_at(command, 0)?)? != "of" {
+        return Ok(Order { alloc, id, command });
+    }
     id[15] = number_at(command, 1, 255)? as u8;
-    let behind = behind_word(behind_word(command).trim_ascii());
-    Ok((id, behind.trim_ascii()))
+    let command = behind_word(behind_word(command).trim_ascii()).trim_ascii();
+    Ok(Order { alloc, id, command })
 }
 
-/// What is answered to a command of that auction.
-fn put_commanded<K: Keeper + Drop>(
-    alloc: Global,
-    keeper: &mut K,
-    text: &mut Text,
-    id: &[u8; 16],
-    command: &[u8],
-) -> Tried<()> {
-    if text_in(word_at(command, 0)?)? != "keep" {
-        return put_housed(alloc, keeper, text, id, command);
+/// What is answered to a command.
+fn put_commanded<K: Keeper + Drop>(keeper: &mut K, text: &mut Text, order: &Order) -> Tried<()> {
+    if text_in(word_at(order.command, 0)?)? != "keep" {
+        return put_housed(keeper, text, order);
     }
-    let auction = made(alloc, id, behind_word(command))?;
+    let auction = made(order)?;
     match keeper.put(auction) {
         Ok(()) => text.put(b"kept"),
         Err(_refusal) => text.put(b"fault"),
@@ -144,30 +146,25 @@ pub fn behind_word(command: &[u8]) -> &[u8] {
     &[]
 }
 
-/// The auction that these commands, with commas between them, make in memory.
-fn made(alloc: Global, id: &[u8; 16], commands: &[u8]) -> Tried<Auction>
+/// The auction that the commands behind the first word, with commas between them, make in memory.
+fn made(order: &Order) -> Tried<Auction>
     ensures { IfOk result IsAuction }
 {
-    let mut keeper = MemKeeper::new(alloc);
-    let mut said = Text::new(alloc);
-    let made = made_in(alloc, &mut keeper, &mut said, id, commands);
+    let mut keeper = MemKeeper::new(order.alloc);
+    let mut said = Text::new(order.alloc);
+    let made = made_in(&mut keeper, &mut said, order);
     made
 }
 
 /// The auction of that id, once these commands are done over the keeper.
-fn made_in<K: Keeper + Drop>(
-    alloc: Global,
-    keeper: &mut K,
-    said: &mut Text,
-    id: &[u8; 16],
-    commands: &[u8],
-) -> Tried<Auction>
+fn made_in<K: Keeper + Drop>(keeper: &mut K, said: &mut Text, order: &Order) -> Tried<Auction>
     ensures { IfOk result IsAuction }
 {
-    for command in commands.split(|byte| *byte == b',') {
-        put_housed(alloc, keeper, said, id, command.trim_ascii())?;
+    for command in behind_word(order.command).split(|byte| *byte == b',') {
+        let command = command.trim_ascii();
+        put_housed(keeper, said, &Order { command, ..*order })?;
     }
-    match keeper.get(id) {
+    match keeper.get(&order.id) {
         Ok(Some(auction)) => Ok(auction),
         Ok(None) => Err(Unreplayed::NoCase),
         Err(refusal) => Err(Unreplayed::from(refusal)),
@@ -175,66 +172,43 @@ fn made_in<K: Keeper + Drop>(
 }
 
 /// What a house answers to a command.
-fn put_housed<K: Keeper + Drop>(
-    alloc: Global,
-    keeper: &mut K,
-    text: &mut Text,
-    id: &[u8; 16],
-    command: &[u8],
-) -> Tried<()> {
-    match text_in(word_at(command, 0)?)? {
-        "announce" => put_announced(alloc, keeper, text, id, command),
-        "submit" => put_submitted(alloc, keeper, text, id, command),
-        "prove" => prove(alloc, keeper, text, id),
-        "answer" => answer(alloc, keeper, text, id, word_at(command, 1)?),
-        "find" => put_kept(keeper, text, id),
+fn put_housed<K: Keeper + Drop>(keeper: &mut K, text: &mut Text, order: &Order) -> Tried<()> {
+    match text_in(word_at(order.command, 0)?)? {
+        "announce" => put_announced(keeper, text, order),
+        "submit" => put_submitted(keeper, text, order),
+        "prove" => prove(keeper, text, order),
+        "answer" => answer(keeper, text, order),
+        "find" => put_kept(keeper, text, &order.id),
         _ => Err(Unreplayed::NoCase),
     }
 }
 
-fn prove<K: Keeper + Drop>(
-    alloc: Global,
-    keeper: &mut K,
-    text: &mut Text,
-    id: &[u8; 16],
-) -> Tried<()> {
-    let proved = House::over(keeper).prove(alloc, id, &SEED);
+fn prove<K: Keeper + Drop>(keeper: &mut K, text: &mut Text, order: &Order) -> Tried<()> {
+    let proved = House::over(keeper).prove(order.alloc, &order.id, &SEED);
     let put = put_proved(text, &proved);
     put
 }
 
-/// What is answered to the challenge of these bits.
-fn answer<K: Keeper + Drop>(
-    alloc: Global,
-    keeper: &mut K,
-    text: &mut Text,
-    id: &[u8; 16],
-    bits: &[u8],
-) -> Tried<()> {
-    let challenge = challenge_of(alloc, bits)?;
-    let answered = House::over(keeper).answer(alloc, id, &challenge);
+/// What is answered to the challenge of the bits.
+fn answer<K: Keeper + Drop>(keeper: &mut K, text: &mut Text, order: &Order) -> Tried<()> {
+    let challenge = challenge_of(order.alloc, word_at(order.command, 1)?)?;
+    let answered = House::over(keeper).answer(order.alloc, &order.id, &challenge);
     let put = put_answered(text, &answered);
     put
 }
 
-fn put_announced<K: Keeper + Drop>(
-    alloc: Global,
-    keeper: &mut K,
-    text: &mut Text,
-    id: &[u8; 16],
-    command: &[u8],
-) -> Tried<()> {
-    let width = number_at(command, 1, 40)? as u32;
-    let lanes = number_at(command, 2, 64)? as u32;
+fn put_announced<K: Keeper + Drop>(keeper: &mut K, text: &mut Text, order: &Order) -> Tried<()> {
+    let width = number_at(order.command, 1, 40)? as u32;
+    let lanes = number_at(order.command, 2, 64)? as u32;
     if width == 0 || lanes == 0 {
         return Err(Unreplayed::NoCase);
     }
     let mut house = House::over(keeper);
-    let announced = if word_at(command, 3).is_err() {
-        house.announce(alloc, id, width, lanes)
+    let announced = if word_at(order.command, 3).is_err() {
+        house.announce(order.alloc, &order.id, width, lanes)
     } else {
-        let reserve = number_at(command, 3, (1 << width) - 1)?;
-        house.announce_reserve(alloc, id, width, lanes, reserve)
+        let reserve = number_at(order.command, 3, (1 << width) - 1)?;
+        house.announce_reserve(order.alloc, &order.id, width, lanes, reserve)
     };
     let put = put_announcement(text, &announced);
     put
@@ -252,22 +226,17 @@ fn put_announcement(text: &mut Text, announced: &Result<(), HouseErr>) -> Tried<
 }
 
 /// The seal of the seat and its secret, made for the auction that is kept, are handed in.
-fn put_submitted<K: Keeper + Drop>(
-    alloc: Global,
-    keeper: &mut K,
-    text: &mut Text,
-    id: &[u8; 16],
-    command: &[u8],
-) -> Tried<()> {
-    let seat = number_at(command, 1, 65535)? as u16;
-    let bid = number_at(command, 2, u64::MAX)?;
-    let (width, lanes) = size_of(keeper, id)?;
+fn put_submitted<K: Keeper + Drop>(keeper: &mut K, text: &mut Text, order: &Order) -> Tried<()> {
+    let seat = number_at(order.command, 1, 65535)? as u16;
+    let bid = number_at(order.command, 2, u64::MAX)?;
+    let (width, lanes) = size_of(keeper, &order.id)?;
     if seat == 0 {
         return Err(Unreplayed::NoCase);
     }
-    let mut words = ChaChaWords::of(&SEED, id, 65536 + u64::from(seat));
-    match make_seal(alloc, bid, seat, id, width, lanes, &mut words) {
-        Ok((secret, seal)) => hand_in(keeper, text, id, seal, secret),
+    let mut words = ChaChaWords::of(&SEED, &order.id, 65536 + u64::from(seat));
+    let sealed = make_seal(order.alloc, bid, seat, &order.id, width, lanes, &mut words);
+    match sealed {
+        Ok((secret, seal)) => hand_in(keeper, text, &order.id, seal, secret),
         Err(_refused) => Err(Unreplayed::NoCase),
     }
 }

@@ -3,19 +3,6 @@ use Rattle.vk_keeper_sql.specs.Statements.{auction_query, terms_query, seals_que
 use Rattle.vk_keeper_sql.proofs.Steps.{ask_behind, done_as, refused_as}
 use Rattle.vk_keeper_sql.proofs.finding.rows_within.Goals as goal
 
-pub returns-clause-works : goal.returns-clause-works
-unfolding auction_query terms_query seals_query
-returns-clause-works g c =
-    done_as (ask_behind c.in_ok-heads.ensures.works
-    (ask_behind c.in_ok-terms.ensures.works c.in_ok-seals.ensures.works)) (λ all. record {
-      one = all.0;
-      two = all.2.0;
-      last = c.rows_under-3.new.transaction.conn.now;
-      head = all.1;
-      term = all.2.1;
-      seals = all.2.2;
-    })
-
 pub returns-in_err-heads-clause-works : goal.returns-in_err-heads-clause-works
 unfolding auction_query
 returns-in_err-heads-clause-works g c =
@@ -49,3 +36,16 @@ returns-in_err-seals-clause-works g c =
         ),
       ),
     )) (search rules)
+
+pub returns-clause-works : goal.returns-clause-works
+unfolding auction_query terms_query seals_query
+returns-clause-works g c =
+    done_as (ask_behind c.in_ok-heads.ensures.works
+    (ask_behind c.in_ok-terms.ensures.works c.in_ok-seals.ensures.works)) (λ all. record {
+      one = all.0;
+      two = all.2.0;
+      last = c.rows_under-3.new.transaction.conn.now;
+      head = all.1;
+      term = all.2.1;
+      seals = all.2.2;
+    })

@@ -2,7 +2,7 @@ use Rattle.std.proofs.Common.{refl, rules}
 use Rattle.vk_keeper_sql.specs.declared.errors.OpenErr.TheVariants.{Refused}
 use Rattle.vk_keeper_sql.specs.Refusals.{open_refusal}
 use Rattle.vk_keeper_sql.specs.Unopened.{StopsFrom}
-use Rattle.vk_keeper_sql.proofs.Steps.{done_as, found_otherwise, refused_as, run_behind, stopped_as}
+use Rattle.vk_keeper_sql.proofs.Steps.{asked_as, done_as, found_otherwise, run_behind, stopped_as}
 use Rattle.vk_keeper_sql.proofs.tables.prepare_within.Goals as goal
 
 pub returns-in_ok-lift-in-First-clause-works : goal.returns-in_ok-lift-in-First-clause-works
@@ -21,9 +21,8 @@ returns-in_err-make_tables-in-Blank-clause-works g c =
 pub returns-in_err-check_number-in-First-clause-works :
     goal.returns-in_err-check_number-in-First-clause-works
 returns-in_err-check_number-in-First-clause-works g c =
-    rw c.in-First.is (refused_as c.in_err-check_number-in-First.field-0.0
-    c.in_err-check_number-in-First.ensures.works
-    (λ why. record { stops = λ _. StopsFrom.not_first why }) (search rules))
+    rw c.in-First.is (asked_as c.in_err-check_number-in-First.field-0.0
+    c.in_err-check_number-in-First.ensures.works StopsFrom.not_first (search rules))
 
 pub returns-in_err-lift-in-First-clause-works : goal.returns-in_err-lift-in-First-clause-works
 returns-in_err-lift-in-First-clause-works g c =
@@ -35,16 +34,14 @@ returns-in_err-lift-in-First-clause-works g c =
 pub returns-in_err-check_number-in-Second-clause-works :
     goal.returns-in_err-check_number-in-Second-clause-works
 returns-in_err-check_number-in-Second-clause-works g c =
-    rw c.in-Second.is (refused_as c.in_err-check_number-in-Second.field-0.0
-    c.in_err-check_number-in-Second.ensures.works
-    (λ why. record { stops = λ _. StopsFrom.not_second why }) (search rules))
+    rw c.in-Second.is (asked_as c.in_err-check_number-in-Second.field-0.0
+    c.in_err-check_number-in-Second.ensures.works StopsFrom.not_second (search rules))
 
 pub returns-in_err-_number-in-Other-clause-works :
     goal.returns-in_err-_number-in-Other-clause-works
 returns-in_err-_number-in-Other-clause-works g c =
-    rw c.in-Other.is (refused_as c.in_err-_number-in-Other.field-0.0
-    c.in_err-_number-in-Other.ensures.works
-    (λ why. record { stops = λ _. StopsFrom.not_numbered why }) (search rules))
+    rw c.in-Other.is (asked_as c.in_err-_number-in-Other.field-0.0
+    c.in_err-_number-in-Other.ensures.works StopsFrom.not_numbered (search rules))
 
 pub returns-in-Other-clause-works : goal.returns-in-Other-clause-works
 returns-in-Other-clause-works g c =
