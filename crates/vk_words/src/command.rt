@@ -9,7 +9,7 @@ use crate::claim::{ClaimKind, claim_kind};
 use crate::coins::{CoinOrder, coin_order};
 use crate::names::{confront_names, extract_names, verify_names};
 use crate::orders::{HouseOrder, SealOrder, house_order, seal_order};
-use crate::table::{Verb, row_of};
+use crate::table::{CommandRow, Verb, row_of};
 use crate::word::{name, word};
 use vk_lines::read_decimal;
 
@@ -67,11 +67,11 @@ pub fn command_of(words: &[String]) -> Option<Command<'_>>
     ensures value { option_map command_seen result ≡ command_words (map string_bytes words.now) }
     ensures limits { IfSome result IsCommand }
 {
-    let row = row_of(word(words, 0))?;
-    if words.len() < row.words || row.most < words.len() {
+    let CommandRow(_, verb, fewest, most, _) = *row_of(word(words, 0))?;
+    if words.len() < fewest || most < words.len() {
         return None;
     }
-    let command = command_by(row.verb, words);
+    let command = command_by(verb, words);
     command
 }
 
@@ -83,7 +83,7 @@ pub fn may_ask_house(words: &[String]) -> bool
     ensures none { IsFalse result → AsksNoKeeper (command_words (map string_bytes words.now)) }
 {
     match row_of(word(words, 0)) {
-        Some(row) => row.asks_house,
+        Some(CommandRow(.., asks_house)) => *asks_house,
         None => false,
     }
 }
