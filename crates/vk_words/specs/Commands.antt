@@ -54,7 +54,8 @@ claim_sample_in words = kind_named (nth_word words 1) >>? λ kind. option_map (C
 abbrev pub command_by : Verb → List (List ℕ) → Option CommandWords
 command_by verbs.Seal words = option_map Seal (seal_in words)
 command_by verbs.Verify words = option_map (λ names. Audit (audits.Verify names)) (verify_in words)
-command_by verbs.Extract words = option_map (λ names. Audit (audits.Extract names)) (extract_in words)
+command_by verbs.Extract words =
+    option_map (λ names. Audit (audits.Extract names)) (extract_in words)
 command_by verbs.Confront words =
     option_map (λ names. Audit (audits.Confront names)) (confront_in words)
 command_by verbs.Report words = option_map (λ board. Audit (audits.Report board)) (name_at words 1)
