@@ -35,7 +35,7 @@ board_by auction (Proved kept) seed is =
 board_by auction (Answered kept challenge) seed is =
     ap (λ s. board_of (in_phase auction (Proved s))) (same_Some kept seed is)
 
-board_kept : (auction : Auction) (seed : List ℕ) (later : Auction)
+pub board_kept : (auction : Auction) (seed : List ℕ) (later : Auction)
     → seed_of auction.phase ≡ Some seed
     → KeepsSeed auction seed later → board_of later ≡ board_of auction
 board_kept auction seed later is keeps =
@@ -60,14 +60,14 @@ record Replied (last : Ledger) (id given shown : List ℕ) : Type 0 where
   shown_is : shown ≡ reply_of auction answered
   accepted : Accepts (board_of auction) (challenge_text answered) (reply_of auction answered)
 
-keeps_at : (old new : Ledger) (id : List ℕ) (auction : Auction) → KeepsAnswers old new
+pub keeps_at : (old new : Ledger) (id : List ℕ) (auction : Auction) → KeepsAnswers old new
     → get old id ≡ Some auction → KeepsAnswer auction auction.phase (get new id)
 keeps_at old new id auction keeps stands =
     subst (λ found. IfSome found (λ (a : Auction). KeepsAnswer a a.phase (get new id))) stands
     (keeps id)
 
 -- an auction that is proved keeps its board
-board_stays : (auction : Auction) (seed : List ℕ) (phase : Phase) (later : Option Auction)
+pub board_stays : (auction : Auction) (seed : List ℕ) (phase : Phase) (later : Option Auction)
     → seed_of phase ≡ Some seed → seed_of auction.phase ≡ Some seed
     → KeepsAnswer auction phase later
     → IsSomeAnd later (λ last. board_of last ≡ board_of auction)
@@ -79,7 +79,7 @@ board_stays auction seed (Answered kept challenge) later is whole keeps =
     subst (λ l. IsSomeAnd l (λ last. board_of last ≡ board_of auction)) (sym keeps) refl
 
 -- and one that was answered stays
-reply_stays : (auction : Auction) (answered : Challenge) (phase : Phase) (later : Option Auction)
+pub reply_stays : (auction : Auction) (answered : Challenge) (phase : Phase) (later : Option Auction)
     → challenge_of phase ≡ Some answered → KeepsAnswer auction phase later → later ≡ Some auction
 reply_stays auction answered Taking later is keeps = cc
 reply_stays auction answered (Proved seed) later is keeps = cc

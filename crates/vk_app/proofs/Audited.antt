@@ -3,7 +3,9 @@ use Rattle.std.proofs.Common.{◌≡◌, ℕ, List, Option, Some, None, IfSome, 
 use Rattle.std.specs.Prelude.{◌⊎◌}
 use Rattle.vk_io.specs.Files.{Files}
 use Rattle.vk_keeper.specs.Ledgers.{Ledger}
-use Rattle.vk_words.specs.Commands.{CommandWords, ClaimExtract, ClaimVerify, Confront, Extract, Report, Verify, command_words}
+use Rattle.vk_words.specs.Commands.{CommandWords, Audit, Claim, command_words}
+use Rattle.vk_words.specs.Audits as audits
+use Rattle.vk_words.specs.Claims as claims
 use Rattle.vk_words.specs.Names.{ExtractWords}
 use Rattle.vk_effect.specs.Effects.{Outside, SaidValue, outside, puts, says, stores}
 use Rattle.vk_effect.specs.Ends.{Done}
@@ -77,74 +79,66 @@ module _ (files : Files) (ledger : Option Ledger) (words : List (List ℕ)) (sta
 
   pub ended_headline : Headline files words status old new.taken
   ended_headline =
-      each_puts Extract (extract_said files) (AcceptsTwoFiles files)
+      each_puts (λ names. Audit (audits.Extract names)) (extract_said files) (AcceptsTwoFiles files)
       (λ names accepted n text. IsExtracted accepted.two n old text)
-      (λ names. done_is (Extract names)) (λ names. extracts_exactly files names old)
+      (λ names. done_is (Audit (audits.Extract names))) (λ names. extracts_exactly files names old)
 
   pub ended_claim_headline : ClaimHeadline files words status old new.taken
   ended_claim_headline =
-      each_puts ClaimExtract (claim_extract_said files) (AcceptsTwoClaims files)
+      each_puts (λ names. Claim (claims.Extract names)) (claim_extract_said files)
+      (AcceptsTwoClaims files)
       (λ names accepted n text. IsClaimExtracted accepted.two n old text)
-      (λ names. done_is (ClaimExtract names))
+      (λ names. done_is (Claim (claims.Extract names)))
       (λ names. extracts_claims_exactly files names old)
 
   pub ended_audits : Audits files words status old new.taken
   ended_audits = record {
-    verify = each_says Verify (verify_said files) (λ names n _. IsVerified files names n)
-        (λ names n text. TellsVerdict files names n old text) (λ names. done_is (Verify names))
-        (verifies_exactly files) (λ names. tells_verdicts files names old);
-    extract = each_says Extract (extract_said files) (λ names n _. IsSame files names n)
-        (λ names n text. TellsExtraction files names n old text) (λ names. done_is (Extract names))
-        (tells_same_exactly files) (λ names. tells_extractions files names old);
-    confront = each_says Confront (confront_said files)
+    verify = each_says (λ names. Audit (audits.Verify names)) (verify_said files)
+        (λ names n _. IsVerified files names n)
+        (λ names n text. TellsVerdict files names n old text)
+        (λ names. done_is (Audit (audits.Verify names))) (verifies_exactly files)
+        (λ names. tells_verdicts files names old);
+    extract = each_says (λ names. Audit (audits.Extract names)) (extract_said files)
+        (λ names n _. IsSame files names n)
+        (λ names n text. TellsExtraction files names n old text)
+        (λ names. done_is (Audit (audits.Extract names))) (tells_same_exactly files)
+        (λ names. tells_extractions files names old);
+    confront = each_says (λ names. Audit (audits.Confront names)) (confront_said files)
         (λ names n text. BindsSecret files names n old text)
         (λ names n text. TellsConfrontation files names n old text)
-        (λ names. done_is (Confront names)) (λ names. binds_exactly files names old)
-        (λ names. tells_confrontations files names old);
-    report = each_says Report (report_said files) (λ board n text. IsReported files board n old text)
-        (λ board n text. TellsReport files board n old text) (λ board. done_is (Report board))
+        (λ names. done_is (Audit (audits.Confront names)))
+        (λ names. binds_exactly files names old) (λ names. tells_confrontations files names old);
+    report = each_says (λ board. Audit (audits.Report board)) (report_said files)
+        (λ board n text. IsReported files board n old text)
+        (λ board n text. TellsReport files board n old text)
+        (λ board. done_is (Audit (audits.Report board)))
         (λ board. reports_exactly files board old) (λ board. tells_reports files board old);
   }
 
   pub ended_claims : Claims files words status old new.taken
   ended_claims = record {
-    verify = each_says ClaimVerify (claim_verify_said files)
+    verify = each_says (λ names. Claim (claims.Verify names)) (claim_verify_said files)
         (λ names n _. IsClaimVerified files names n)
         (λ names n text. TellsClaimVerdict files names n old text)
-        (λ names. done_is (ClaimVerify names)) (verifies_claims_exactly files)
+        (λ names. done_is (Claim (claims.Verify names))) (verifies_claims_exactly files)
         (λ names. tells_claim_verdicts files names old);
-    extract = each_says ClaimExtract (claim_extract_said files)
+    extract = each_says (λ names. Claim (claims.Extract names)) (claim_extract_said files)
         (λ names n _. IsSameClaim files names n)
         (λ names n text. TellsClaimExtraction files names n old text)
-        (λ names. done_is (ClaimExtract names)) (tells_same_claims_exactly files)
+        (λ names. done_is (Claim (claims.Extract names))) (tells_same_claims_exactly files)
         (λ names. tells_claim_extractions files names old);
   }
 
 -- ---- as far as the files are modelled
 
 -- so it is said of the files where they are modelled
-abbrev pub TellsOf : (Files → List (List ℕ) → ℕ → Option (List ℕ) → Option (List ℕ) → Type 0) → Type 0
-TellsOf P = (held : Option Files) (ledger : Option Ledger) (words : List (List ℕ)) (status : ℕ)
-    (old : Option (List ℕ)) (new : Outside)
-    → IfSome (work_on held ledger words)
-    (λ work. DoesWork status work (outside (stores held ledger) old) new)
-    → OverFiles P held words status old new.taken
-
 module _ (P : Files → List (List ℕ) → ℕ → Option (List ℕ) → Option (List ℕ) → Type 0)
     (ended : (files : Files) (ledger : Option Ledger) (words : List (List ℕ)) (status : ℕ) (old : Option (List ℕ)) (new : Outside)
     → IfSome (work_on (Some files) ledger words) (λ work. DoesWork status work (outside (stores (Some files) ledger) old) new) → P files words status old new.taken) where
-  pub told_of : TellsOf P
+  pub told_of : (held : Option Files) (ledger : Option Ledger) (words : List (List ℕ)) (status : ℕ)
+      (old : Option (List ℕ)) (new : Outside)
+      → IfSome (work_on held ledger words)
+      (λ work. DoesWork status work (outside (stores held ledger) old) new)
+      → OverFiles P held words status old new.taken
   told_of None ledger words status old new is = tt
   told_of (Some files) ledger words status old new is = ended files ledger words status old new is
-
-pub told_headline : TellsOf Headline
-told_headline = told_of Headline ended_headline
-
-pub told_audits : TellsOf Audits
-told_audits = told_of Audits ended_audits
-
-pub told_claim_headline : TellsOf ClaimHeadline
-told_claim_headline = told_of ClaimHeadline ended_claim_headline
-
-pub told_claims : TellsOf Claims
-told_claims = told_of Claims ended_claims

@@ -186,12 +186,15 @@ module _ (held : Option Files) (ledger : Option Ledger) (words : List (List ℕ)
   AlsoFree result files kept = Ends result files kept
       × CommandEndsFreely (command_words words) result (outside (stores files kept) old) new
 
-  pub told_house : AlsoFree (Ok status) held ledger
+  pub told_house : Ends (Ok status) held ledger
+      → CommandEndsFreely (command_words words) (Ok status) (outside (stores held ledger) old) new
       → IfSome held (λ files. IfSome ledger
       (λ kept. KeepsHouse files kept words status new.files new.ledger old new.taken))
-  told_house = told_both (λ files kept. KeepsHouse files kept words status new.files new.ledger old
+  told_house ends free =
+      told_both (λ files kept. KeepsHouse files kept words status new.files new.ledger old
       new.taken) (AlsoFree (Ok status))
-      (λ files kept ends. ended_house files kept words status old new ends.0 ends.1) held ledger
+      (λ files kept is. ended_house files kept words status old new is.0 is.1) held ledger
+      (ends, free)
 
   pub told_ceremony : Ends (Ok status) held ledger
       → IfSome held (λ files. IfSome ledger

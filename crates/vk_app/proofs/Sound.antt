@@ -14,15 +14,17 @@ use Rattle.vk_claim.specs.Printing.{claim_extraction_text}
 use Rattle.vk_claims.specs.Circuits.{admitted_plan, claimed}
 use Rattle.vk_claims.specs.Statuses.{AcceptsTwoClaims, IsClaimExtracted}
 use Rattle.vk_claims.proofs.Soundness.{begins_with_claim, values_are_told}
-use Rattle.vk_claims.proofs.Soundness as claims
-use Rattle.vk_words.specs.Commands.{CommandWords, ClaimExtract, Extract, command_words}
+use Rattle.vk_claims.proofs.Soundness as opened
+use Rattle.vk_words.specs.Commands.{CommandWords, Audit, Claim, command_words}
+use Rattle.vk_words.specs.Audits as audits
+use Rattle.vk_words.specs.Claims as claims
 use Rattle.vk_words.specs.Names.{AttemptWords, ExtractWords, VerifyWords, attempt_at, extract_in, is_name, verify_in}
 use Rattle.vk_words.specs.Table.{commands, row_of}
 use Rattle.vk_effect.specs.Effects.{Outside, outside, stores}
 use Rattle.vk_audit.specs.Statuses.{AcceptsTwoFiles, IsExtracted, PutsText}
 use Rattle.vk_app.specs.Commands.{DoesWork, Work, work_of, work_on}
-use Rattle.vk_app.specs.Promises.{ClaimExtractIsComplete, ClaimExtractIsSound, EndsWhereAccepted, ExtractIsComplete, ExtractIsSound, OverFiles, Prints, PrintsBidsOf, PrintsValuesOf, PutsExactly}
-use Rattle.vk_app.proofs.Audited.{TellsOf, ended_claim_headline, ended_headline, told_of}
+use Rattle.vk_app.specs.Promises.{ClaimExtractIsComplete, ClaimExtractIsSound, EndsWhereAccepted, ExtractIsComplete, ExtractIsSound, Prints, PrintsBidsOf, PrintsValuesOf, PutsExactly}
+use Rattle.vk_app.proofs.Audited.{ended_claim_headline, ended_headline}
 
 -- ---- words
 
@@ -87,6 +89,13 @@ all_names command true true false d e file challenge reply other second _ _ is _
 all_names command true true true false e file challenge reply other second _ _ _ is _ = cc
 all_names command true true true true false file challenge reply other second _ _ _ _ is = cc
 
+-- the commands that extract, by their names
+abbrev audit_extract : ExtractWords → CommandWords
+audit_extract names = Audit (audits.Extract names)
+
+abbrev claim_extract : ExtractWords → CommandWords
+claim_extract names = Claim (claims.Extract names)
+
 module _ (file challenge reply other second : List ℕ) where
   -- the five words behind this one, and the command that they are
   abbrev six : List ℕ → List (List ℕ)
@@ -97,11 +106,11 @@ module _ (file challenge reply other second : List ℕ) where
       command_if command (is_name file) (is_name challenge) (is_name reply) (is_name other)
       (is_name second) file challenge reply other second
 
-  extract_words : command_words (six (codes "extract")) ≡ command_of Extract
+  extract_words : command_words (six (codes "extract")) ≡ command_of audit_extract
   unfolding command_words row_of commands extract_in verify_in attempt_at
   extract_words = refl
 
-  claim_extract_words : command_words (six (codes "claim-extract")) ≡ command_of ClaimExtract
+  claim_extract_words : command_words (six (codes "claim-extract")) ≡ command_of claim_extract
   unfolding command_words row_of commands extract_in verify_in attempt_at
   claim_extract_words = refl
 
@@ -193,7 +202,7 @@ module _ (files : Files) (status : ℕ) (old new : Option (List ℕ)) where
             claim_extraction_text _ (values_are_told two) old new
             (done_is _ _ status extracted zero_is);
         clash = λ three_is. prints_as (IsClashOf two) clash_text _
-            (claims.clash_is_told two) old new (clash_is _ _ status extracted three_is);
+            (opened.clash_is_told two) old new (clash_is _ _ status extracted three_is);
       }
 
 -- ---- at its end
@@ -257,36 +266,23 @@ module _ (files : Files) (ledger : Option Ledger) (words : List (List ℕ)) (sta
 
   pub ended_sound : ExtractIsSound files words status old new.taken
   ended_sound board challenge reply other second is ends =
-      let put = put_where (codes "extract") Extract (ended_headline files ledger words status old new ended)
+      let put = put_where (codes "extract") audit_extract
+      (ended_headline files ledger words status old new ended)
       extract_words board challenge reply other second is ends in
       bids_printed files status old new.taken (five board challenge reply other second) put.0 put.1
 
   pub ended_complete : ExtractIsComplete files words status old new.taken
-  ended_complete = ends_where (codes "extract") Extract
+  ended_complete = ends_where (codes "extract") audit_extract
       (ended_headline files ledger words status old new ended) extract_words
 
   pub ended_claim_sound : ClaimExtractIsSound files words status old new.taken
   ended_claim_sound claim challenge reply other second is ends =
-      let put = put_where (codes "claim-extract") ClaimExtract
+      let put = put_where (codes "claim-extract") claim_extract
       (ended_claim_headline files ledger words status old new ended)
       claim_extract_words claim challenge reply other second is ends in
       values_printed files status old new.taken (five claim challenge reply other second) put.0
       put.1
 
   pub ended_claim_complete : ClaimExtractIsComplete files words status old new.taken
-  ended_claim_complete = ends_where (codes "claim-extract") ClaimExtract
+  ended_claim_complete = ends_where (codes "claim-extract") claim_extract
       (ended_claim_headline files ledger words status old new ended) claim_extract_words
-
--- ---- as far as the files are modelled
-
-pub told_sound : TellsOf ExtractIsSound
-told_sound = told_of ExtractIsSound ended_sound
-
-pub told_complete : TellsOf ExtractIsComplete
-told_complete = told_of ExtractIsComplete ended_complete
-
-pub told_claim_sound : TellsOf ClaimExtractIsSound
-told_claim_sound = told_of ClaimExtractIsSound ended_claim_sound
-
-pub told_claim_complete : TellsOf ClaimExtractIsComplete
-told_claim_complete = told_of ClaimExtractIsComplete ended_claim_complete

@@ -5,14 +5,14 @@ use Rattle.vk_io.specs.Files.{Files}
 use Rattle.vk_io.specs.declared.errors.OutsideErr.{OutsideErr}
 use Rattle.vk_io.specs.declared.errors.OutsideErr.TheVariants.{Failed}
 use Rattle.vk_keeper.specs.Ledgers.{Ledger}
-use Rattle.vk_words.specs.Commands.{AsksNoKeeper, CommandWords, Seal, House, Verify, Extract, Confront, Report, Sample, Ceremony, ClaimVerify, ClaimExtract, ClaimSample, Coin, command_words}
+use Rattle.vk_words.specs.Commands.{AsksNoKeeper, CommandWords, Seal, House, Audit, Sample, Ceremony, Claim, ClaimSample, Coin, command_words}
+use Rattle.vk_words.specs.Audits.{AuditWords}
+use Rattle.vk_words.specs.Claims.{ClaimWords}
 use Rattle.vk_words.specs.Usage.{usage_text}
 use Rattle.vk_effect.specs.Effects.{Effect, Outside, SaidValue, Stores, says, stores}
 use Rattle.vk_effect.specs.Ends.{Acts, Ends}
-use Rattle.vk_audit.specs.Audits.{AuditWords, audit_said}
-use Rattle.vk_audit.specs.Audits as audits
-use Rattle.vk_claims.specs.Orders.{ClaimWords, claim_said}
-use Rattle.vk_claims.specs.Orders as claims
+use Rattle.vk_audit.specs.Audits.{audit_said}
+use Rattle.vk_claims.specs.Orders.{claim_said}
 use Rattle.vk_coins.specs.Deeds.{coin_on}
 use Rattle.vk_auctioneer.specs.Effects.{house_effect}
 use Rattle.vk_ceremony.specs.Ceremonies.{EndsAll, ceremony_on}
@@ -41,15 +41,10 @@ claim_on files ledger order = option_map (λ modelled. says ledger (claim_said m
 abbrev pub command_effect : Option Files → Option Ledger → Option CommandWords → Option Effect
 command_effect files ledger None = Some (says ledger usage_said)
 command_effect files ledger (Some (Seal order)) = seal_on ledger order
-command_effect files ledger (Some (Verify names)) = audit_on files ledger (audits.Verify names)
-command_effect files ledger (Some (Extract names)) = audit_on files ledger (audits.Extract names)
-command_effect files ledger (Some (Confront names)) = audit_on files ledger (audits.Confront names)
-command_effect files ledger (Some (Report board)) = audit_on files ledger (audits.Report board)
+command_effect files ledger (Some (Audit order)) = audit_on files ledger order
 command_effect files ledger (Some (House order)) = house_effect files ledger order
 command_effect files ledger (Some (Sample number)) = sample_on files ledger number
-command_effect files ledger (Some (ClaimVerify names)) = claim_on files ledger (claims.Verify names)
-command_effect files ledger (Some (ClaimExtract names)) =
-    claim_on files ledger (claims.Extract names)
+command_effect files ledger (Some (Claim order)) = claim_on files ledger order
 command_effect files ledger (Some (ClaimSample kind number)) =
     claim_sample_on files ledger kind number
 command_effect files ledger (Some (Coin order)) = coin_on files ledger order

@@ -6,8 +6,10 @@ use Rattle.std.specs.List.{AllByRecursion}
 use Rattle.vk_io.specs.Files.{Files, Modelled}
 use Rattle.vk_io.specs.declared.errors.OutsideErr.{OutsideErr}
 use Rattle.vk_keeper.specs.Ledgers.{Ledger}
-use Rattle.vk_words.specs.Commands.{CommandWords, ClaimExtract, ClaimVerify, Confront, Extract, House, Report, Verify, command_words}
+use Rattle.vk_words.specs.Commands.{CommandWords, Audit, Claim, House, command_words}
 use Rattle.vk_words.specs.Commands as commands
+use Rattle.vk_words.specs.Audits as audits
+use Rattle.vk_words.specs.Claims as claims
 use Rattle.vk_words.specs.Names.{ConfrontWords, ExtractWords, VerifyWords, is_name}
 use Rattle.vk_words.specs.Orders.{HouseWords}
 use Rattle.vk_effect.specs.Effects.{IsSaid, Outside, SaidValue, outside, stores}
@@ -134,7 +136,7 @@ pub record PutsExactly (words : List (List ℕ)) (status : ℕ) (command : Extra
 -- 0 in version 1. Or it puts two openings of one commitment. It puts such of no others
 abbrev pub Headline : Files → List (List ℕ) → (status : ℕ) → (old new : Option (List ℕ)) → Type 0
 Headline files words status old new =
-    PutsExactly words status Extract (AcceptsTwoFiles files)
+    PutsExactly words status (λ names. Audit (audits.Extract names)) (AcceptsTwoFiles files)
     (λ names accepted. IsExtracted accepted.two status old new)
 
 -- of two replies that are accepted with one claim file for different challenges, `claim-extract`
@@ -143,7 +145,7 @@ Headline files words status old new =
 abbrev pub ClaimHeadline : Files → List (List ℕ) → (status : ℕ) → (old new : Option (List ℕ))
     → Type 0
 ClaimHeadline files words status old new =
-    PutsExactly words status ClaimExtract (AcceptsTwoClaims files)
+    PutsExactly words status (λ names. Claim (claims.Extract names)) (AcceptsTwoClaims files)
     (λ names accepted. IsClaimExtracted accepted.two status old new)
 
 -- ---- the commands of an auditor, and those on claims
@@ -157,34 +159,34 @@ pub record Says (status : ℕ) (Means Tells : Type 0) : Type 0 where
 pub record Audits (files : Files) (words : List (List ℕ)) (status : ℕ)
     (old new : Option (List ℕ)) : Type 0 where
   -- status 0 is that the reply is accepted. Every end says the verdict that holds
-  pub verify : (names : VerifyWords) → command_words words ≡ Some (Verify names)
+  pub verify : (names : VerifyWords) → command_words words ≡ Some (Audit (audits.Verify names))
       → Says status (IsVerified files names status) (TellsVerdict files names status old new)
   -- status 7 is that both replies are accepted and the challenges don't differ. Every end says the
   -- bids, a clash, or the verdict on a reply that isn't accepted
-  pub extract : (names : ExtractWords) → command_words words ≡ Some (Extract names)
+  pub extract : (names : ExtractWords) → command_words words ≡ Some (Audit (audits.Extract names))
       → Says status (IsSame files names status) (TellsExtraction files names status old new)
   -- status 0 is that the secret has the board's seal of its seat, and that the replies open just
   -- its halves. Where the seal is the secret's and they open another, two openings of one
   -- commitment are put. Every end says what holds; where the replies themselves open a commitment
   -- with two values, that
-  pub confront : (names : ConfrontWords) → command_words words ≡ Some (Confront names)
+  pub confront : (names : ConfrontWords) → command_words words ≡ Some (Audit (audits.Confront names))
       → Says status (BindsSecret files names status old new)
       (TellsConfrontation files names status old new)
   -- status 0 is that the file is a board whose price and winner may stand, and what it publishes is
   -- put. Every end says that, or the first fault of the file
-  pub report : (board : List ℕ) → command_words words ≡ Some (Report board)
+  pub report : (board : List ℕ) → command_words words ≡ Some (Audit (audits.Report board))
       → Says status (IsReported files board status old new)
       (TellsReport files board status old new)
 
 pub record Claims (files : Files) (words : List (List ℕ)) (status : ℕ)
     (old new : Option (List ℕ)) : Type 0 where
   -- status 0 is that the reply is accepted. Every end says the verdict that holds
-  pub verify : (names : VerifyWords) → command_words words ≡ Some (ClaimVerify names)
+  pub verify : (names : VerifyWords) → command_words words ≡ Some (Claim (claims.Verify names))
       → Says status (IsClaimVerified files names status)
       (TellsClaimVerdict files names status old new)
   -- status 7 is that both replies are accepted and the challenges don't differ. Every end says the
   -- values, a clash, or the verdict on a reply that isn't accepted
-  pub extract : (names : ExtractWords) → command_words words ≡ Some (ClaimExtract names)
+  pub extract : (names : ExtractWords) → command_words words ≡ Some (Claim (claims.Extract names))
       → Says status (IsSameClaim files names status)
       (TellsClaimExtraction files names status old new)
 

@@ -7,14 +7,14 @@ ghost use Rattle.vk_judge.specs.Wanting.{MemoryWasWanting};
 ghost use Rattle.vk_keeper.specs.Ledgers.{Ledger};
 ghost use Rattle.vk_words.specs.Commands.{ClaimSample, Coin, IsCommand, Seal, command_seen, command_words};
 ghost use Rattle.vk_words.specs.declared.claim.ClaimKind.TheVariants.{Matching};
+ghost use Rattle.vk_words.specs.Audits.{audit_seen};
+ghost use Rattle.vk_words.specs.Claims.{claim_order_seen};
 ghost use Rattle.vk_words.specs.Coins.{CoinWords};
 ghost use Rattle.vk_words.specs.Orders.{SealWords};
 ghost use Rattle.vk_effect.specs.Effects.{IsCommandEnd, IsEnd, outside, stores};
 ghost use Rattle.vk_effect.specs.Ends.{Acts};
 ghost use Rattle.vk_house.specs.Once.{KeepsAnswers};
 ghost use Rattle.vk_effect.specs.Counts.{CausesThree, CausesTwo};
-ghost use Rattle.vk_audit.specs.Audits.{audit_seen};
-ghost use Rattle.vk_claims.specs.Orders.{claim_order_seen};
 ghost use Rattle.vk_coins.specs.Meaning.{MakesChallenge};
 ghost use Rattle.vk_app.specs.Commands.{ActsOnFiles, CommandActsFreely, CommandEndsFreely, EndsWork, LeavesKeeper, ReadsReplies, RunIsDone, RunIsStopped, audit_on, claim_on, command_effect, script_in, work_of, work_on};
 ghost use Rattle.vk_app.specs.Promises.{Audits, ClaimExtractIsComplete, ClaimExtractIsSound, ClaimHeadline, Claims, CommandLeft, ExtractIsComplete, ExtractIsSound, Headline, HoldsCeremony, KeepsHouse, OverFiles, RunLeaves, RunStops, SamplesMatching, TellsUsage, WorkLeft};
@@ -24,15 +24,15 @@ use crate::seal::seal;
 use crate::usage::usage;
 use std::alloc::Global;
 use vk_auctioneer::house_command;
-use vk_audit::{AuditOrder, audit};
+use vk_audit::audit;
 use vk_ceremony::ceremony;
-use vk_claims::{ClaimOrder, audit_claim, claim_sample};
+use vk_claims::{audit_claim, claim_sample};
 use vk_coins::make_challenge;
 use vk_effect::Said;
 use vk_io::{OutsideErr, Shelf, Sink};
 use vk_keeper::Keeper;
 use vk_sample::sample;
-use vk_words::{Command, command_of};
+use vk_words::{AuditOrder, ClaimOrder, Command, command_of};
 
 /// Does an auditor's command, but for printing.
 fn read<S: Shelf>(alloc: Global, shelf: &mut S, order: &AuditOrder<'_>) -> Result<Said, OutsideErr>
@@ -90,19 +90,9 @@ fn act<S: Shelf, K: Keeper + Drop>(
     match command {
         Command::Seal(order) => Ok(seal(alloc, shelf, &order)?),
         Command::House(order) => Ok(house_command(alloc, shelf, keeper, &order)?),
-        Command::Verify(names) => Ok(read(alloc, shelf, &AuditOrder::Verify(names))?),
-        Command::Extract(names) => Ok(read(alloc, shelf, &AuditOrder::Extract(names))?),
-        Command::Confront(names) => Ok(read(alloc, shelf, &AuditOrder::Confront(names))?),
-        Command::Report(board) => Ok(read(alloc, shelf, &AuditOrder::Report(board))?),
+        Command::Audit(order) => Ok(read(alloc, shelf, &order)?),
         Command::Sample(number) => Ok(sample(alloc, shelf, number)?),
-        Command::ClaimVerify(names) => {
-            let said = read_claim(alloc, shelf, &ClaimOrder::Verify(names))?;
-            Ok(said)
-        }
-        Command::ClaimExtract(names) => {
-            let said = read_claim(alloc, shelf, &ClaimOrder::Extract(names))?;
-            Ok(said)
-        }
+        Command::Claim(order) => Ok(read_claim(alloc, shelf, &order)?),
         Command::ClaimSample { kind, number } => {
             let said = claim_sample(alloc, shelf, kind, number)?;
             Ok(said)
@@ -118,17 +108,7 @@ fn script_of(command: Command<'_>) -> Option<&str>
 {
     match command {
         Command::Ceremony(script) => Some(script),
-        Command::Seal(_)
-        | Command::House(_)
-        | Command::Verify(_)
-        | Command::Extract(_)
-        | Command::Confront(_)
-        | Command::Report(_)
-        | Command::Sample(_)
-        | Command::ClaimVerify(_)
-        | Command::ClaimExtract(_)
-        | Command::ClaimSample { .. }
-        | Command::Coin(_) => None,
+        _ => None,
     }
 }
 

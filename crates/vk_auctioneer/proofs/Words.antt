@@ -12,8 +12,10 @@ use Rattle.vk_lines.proofs.Hexadecimal.{hex_of-some}
 use Rattle.vk_lines.proofs.Words.{decimal_token, meeting_token}
 use Rattle.vk_words.specs.declared.table.Verb.{Verb}
 use Rattle.vk_words.specs.declared.table.Verb.TheVariants as verbs
-use Rattle.vk_words.specs.Commands.{CommandWords, Seal, House, Verify, Extract, Confront, Report, Sample, Ceremony, ClaimVerify, ClaimExtract, ClaimSample, Coin, command_by, command_words, house_in, house_words, may_have}
+use Rattle.vk_words.specs.Commands.{CommandWords, Seal, House, Audit, Sample, Ceremony, Claim, ClaimSample, Coin, command_by, command_words, house_in, house_words, may_have}
+use Rattle.vk_words.specs.Audits as audits
 use Rattle.vk_words.specs.Claims.{kind_named}
+use Rattle.vk_words.specs.Claims as claims
 use Rattle.vk_words.specs.Coins.{coin_by}
 use Rattle.vk_words.specs.Names.{attempt_at, confront_in, extract_in, name_at, verify_in, nth_word}
 use Rattle.vk_words.specs.Orders.{HouseWords, Announce, AnnounceReserve, Answer, announced_on, house_by, house_on, id_at, if_other, seal_in, seed_at}
@@ -127,16 +129,20 @@ command_each words verbs.Submit = house_map _ (by_each verbs.Submit words)
 command_each words verbs.Prove = house_map _ (by_each verbs.Prove words)
 command_each words verbs.Answer = house_map _ (by_each verbs.Answer words)
 command_each words verbs.Show = house_map _ (by_each verbs.Show words)
-command_each words verbs.Verify = map_each OfHouse (verify_in words) Verify (λ names _. tt)
-command_each words verbs.Extract = map_each OfHouse (extract_in words) Extract (λ names _. tt)
-command_each words verbs.Confront = map_each OfHouse (confront_in words) Confront (λ names _. tt)
-command_each words verbs.Report = map_each OfHouse (name_at words 1) Report (λ name _. tt)
+command_each words verbs.Verify =
+    map_each OfHouse (verify_in words) (λ names. Audit (audits.Verify names)) (λ names _. tt)
+command_each words verbs.Extract =
+    map_each OfHouse (extract_in words) (λ names. Audit (audits.Extract names)) (λ names _. tt)
+command_each words verbs.Confront =
+    map_each OfHouse (confront_in words) (λ names. Audit (audits.Confront names)) (λ names _. tt)
+command_each words verbs.Report =
+    map_each OfHouse (name_at words 1) (λ name. Audit (audits.Report name)) (λ name _. tt)
 command_each words verbs.Sample = map_each OfHouse _ Sample (λ number _. tt)
 command_each words verbs.Ceremony = map_each OfHouse (name_at words 1) Ceremony (λ name _. tt)
 command_each words verbs.ClaimVerify =
-    map_each OfHouse (verify_in words) ClaimVerify (λ names _. tt)
+    map_each OfHouse (verify_in words) (λ names. Claim (claims.Verify names)) (λ names _. tt)
 command_each words verbs.ClaimExtract =
-    map_each OfHouse (extract_in words) ClaimExtract (λ names _. tt)
+    map_each OfHouse (extract_in words) (λ names. Claim (claims.Extract names)) (λ names _. tt)
 command_each words verbs.ClaimSample =
     then_each OfHouse (kind_named (nth_word words 1)) _
     (λ kind _. map_each OfHouse _ (ClaimSample kind) (λ number _. tt))

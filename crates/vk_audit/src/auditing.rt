@@ -5,8 +5,9 @@ ghost use Rattle.vk_io.specs.Reads.{OnlyReads};
 ghost use Rattle.vk_lines.specs.Gives.{Gives};
 ghost use Rattle.vk_bids.specs.Confrontation.{fault_of};
 ghost use Rattle.vk_judge.specs.Wanting.{MemoryWasWanting};
+ghost use Rattle.vk_words.specs.Audits.{audit_seen};
 ghost use Rattle.vk_words.specs.Names.{confront_seen, extract_seen, verify_seen};
-ghost use Rattle.vk_audit.specs.Audits.{Says, audit_said, audit_seen};
+ghost use Rattle.vk_audit.specs.Audits.{Says, audit_said};
 ghost use Rattle.vk_audit.specs.Confrontations.{confrontation_in};
 ghost use Rattle.vk_audit.specs.Extractions.{replies_seen};
 ghost use Rattle.vk_audit.specs.Reports.{report_said};
@@ -23,17 +24,7 @@ use vk_io::{OutsideErr, Shelf};
 use vk_judge::VErr;
 use vk_report::read_report;
 use vk_verifier::verdict;
-use vk_words::{ConfrontNames, ExtractNames, VerifyNames};
-
-/// What is to be audited: the names of the files.
-#[derive(Clone, Copy, Debug)]
-pub enum AuditOrder<'a> {
-    Verify(VerifyNames<'a>),
-    Extract(ExtractNames<'a>),
-    Confront(ConfrontNames<'a>),
-    /// The name of the board.
-    Report(&'a str),
-}
+use vk_words::{AuditOrder, ConfrontNames, ExtractNames, VerifyNames};
 
 /// The names with those of the one challenge and reply in both places.
 pub fn verified_names<'a>(names: &VerifyNames<'a>) -> ExtractNames<'a>

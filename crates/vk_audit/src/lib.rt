@@ -9,7 +9,7 @@ mod laws;
 mod reports;
 mod verdicts;
 
-pub use auditing::{AuditOrder, audit, replies_of, verified_names};
+pub use auditing::{audit, replies_of, verified_names};
 pub use confrontations::{confront_answered, confront_unread, say_confrontation};
 pub use extractions::{extract_answered, say_extraction};
 pub use laws::statuses_mean_what_the_files_are;

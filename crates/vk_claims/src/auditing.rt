@@ -3,9 +3,10 @@
 ghost use Rattle.std.specs.Prelude.{IsErrOf};
 ghost use Rattle.vk_io.specs.Reads.{OnlyReads};
 ghost use Rattle.vk_judge.specs.Wanting.{MemoryWasWanting};
+ghost use Rattle.vk_words.specs.Claims.{Extract, Verify, claim_order_seen};
 ghost use Rattle.vk_words.specs.Names.{extract_seen, verify_seen};
 ghost use Rattle.vk_audit.specs.Audits.{Says};
-ghost use Rattle.vk_claims.specs.Orders.{Extract, Verify, claim_order_seen, claim_said};
+ghost use Rattle.vk_claims.specs.Orders.{claim_said};
 
 use crate::circuits::ClaimCircuits;
 use crate::extractions::claim_extracted;
@@ -16,14 +17,7 @@ use vk_claim::{extract_claim, judge_claim};
 use vk_effect::Said;
 use vk_io::{OutsideErr, Shelf};
 use vk_judge::OneReply;
-use vk_words::{AttemptNames, ExtractNames, VerifyNames};
-
-/// What is to be done with a claim file: the names of the files.
-#[derive(Clone, Copy, Debug)]
-pub enum ClaimOrder<'a> {
-    Verify(VerifyNames<'a>),
-    Extract(ExtractNames<'a>),
-}
+use vk_words::{AttemptNames, ClaimOrder, ExtractNames, VerifyNames};
 
 /// What is said of a reply to a claim file.
 #[tactic(auto, using(vk_judge::specs::Wanting::memory_was_wanting))]

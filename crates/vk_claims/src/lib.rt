@@ -18,7 +18,7 @@ mod sampling;
 mod summary;
 mod verdicts;
 
-pub use auditing::{ClaimOrder, audit_claim};
+pub use auditing::audit_claim;
 pub use circuits::ClaimCircuits;
 pub use extractions::claim_extracted;
 pub use laws::{

@@ -15,29 +15,19 @@ use vk_report::SampleCase;
 use vk_sample_parts::ProofFiles;
 use vk_words::{AttemptNames, ExtractNames};
 
-const BOARD: &str = "sample-board";
-
-const FIRST_CHALLENGE: &str = "sample-challenge-1";
-
-const FIRST_REPLY: &str = "sample-reply-1";
-
-const SECOND_CHALLENGE: &str = "sample-challenge-2";
-
-const SECOND_REPLY: &str = "sample-reply-2";
-
 /// The names of the files.
 pub fn sample_names() -> ExtractNames<'static>
     ensures { extract_seen result ≡ sample_names }
 {
     ExtractNames {
-        board: BOARD,
+        board: "sample-board",
         first: AttemptNames {
-            challenge: FIRST_CHALLENGE,
-            reply: FIRST_REPLY,
+            challenge: "sample-challenge-1",
+            reply: "sample-reply-1",
         },
         second: AttemptNames {
-            challenge: SECOND_CHALLENGE,
-            reply: SECOND_REPLY,
+            challenge: "sample-challenge-2",
+            reply: "sample-reply-2",
         },
     }
 }

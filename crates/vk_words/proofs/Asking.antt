@@ -5,9 +5,11 @@ use Rattle.std.specs.List.{AllByRecursion}
 use Rattle.std.specs.Option.{option_map_or}
 use Rattle.std.specs.Str.{bytes_eq}
 use Rattle.vk_residue.specs.Steps.{◌>>?◌}
-use Rattle.vk_words.specs.Commands.{AsksNoKeeper, CommandWords, Seal, Verify, Extract, Confront, Report, Sample, ClaimVerify, ClaimExtract, ClaimSample, Coin, command_by, command_words, first_asks, may_have}
+use Rattle.vk_words.specs.Commands.{AsksNoKeeper, CommandWords, Seal, Audit, Sample, Claim, ClaimSample, Coin, command_by, command_words, first_asks, may_have}
 use Rattle.vk_words.specs.declared.table.Verb.TheVariants as verbs
+use Rattle.vk_words.specs.Audits as audits
 use Rattle.vk_words.specs.Claims.{kind_named}
+use Rattle.vk_words.specs.Claims as claims
 use Rattle.vk_words.specs.Coins.{coin_by}
 use Rattle.vk_words.specs.Names.{confront_in, extract_in, name_at, verify_in, nth_word}
 use Rattle.vk_words.specs.Orders.{seal_in}
@@ -40,14 +42,14 @@ each_row =
     & (λ is. cc)
     & (λ is. cc)
     & (λ is. cc)
-    & (λ is words. made Verify (λ names. tt) (verify_in words))
-    & (λ is words. made Extract (λ names. tt) (extract_in words))
-    & (λ is words. made Confront (λ names. tt) (confront_in words))
-    & (λ is words. made Report (λ name. tt) (name_at words 1))
+    & (λ is words. made (λ names. Audit (audits.Verify names)) (λ names. tt) (verify_in words))
+    & (λ is words. made (λ names. Audit (audits.Extract names)) (λ names. tt) (extract_in words))
+    & (λ is words. made (λ names. Audit (audits.Confront names)) (λ names. tt) (confront_in words))
+    & (λ is words. made (λ name. Audit (audits.Report name)) (λ name. tt) (name_at words 1))
     & (λ is words. made Sample (λ number. tt) _)
     & (λ is. cc)
-    & (λ is words. made ClaimVerify (λ names. tt) (verify_in words))
-    & (λ is words. made ClaimExtract (λ names. tt) (extract_in words))
+    & (λ is words. made (λ names. Claim (claims.Verify names)) (λ names. tt) (verify_in words))
+    & (λ is words. made (λ names. Claim (claims.Extract names)) (λ names. tt) (extract_in words))
     & (λ is words. made_behind (kind_named (nth_word words 1)) _
     (λ kind. made (ClaimSample kind) (λ number. tt) _))
     & (λ is words. made Coin (λ order. tt) (coin_by verbs.CoinPart words))

@@ -37,11 +37,11 @@ pub one_more :
     (text before : List ℕ) (rows : List CommandRow) (i : ℕ) (d : CommandRow)
     → i < length rows
     → text ++ listed before (map row_seen (drop i rows)) ≡ all_listed
-    → ((text ++ before) ++ (slice_index_or rows i d).name.now)
+    → ((text ++ before) ++ (slice_index_or rows i d).0.now)
     ++ listed (codes "|") (map row_seen (drop (i + 1) rows)) ≡ all_listed
 one_more text before rows i d within is =
     let e = at_drop_more (λ left. listed before (map row_seen left)) rows i d within in
-    let name = (slice_index_or rows i d).name.now in
+    let name = (slice_index_or rows i d).0.now in
     let rest = listed (codes "|") (map row_seen (drop (i + 1) rows)) in
     append_assoc (text ++ before) name rest ∙ append_assoc text before (name ++ rest)
     ∙ ap (λ t. text ++ t) (sym e) ∙ is
@@ -66,9 +66,9 @@ pub name_fits :
     → i < length rows
     → written ≡ text ++ before
     → text ++ listed before (map row_seen (drop i rows)) ≡ all_listed
-    → length written + length (slice_index_or rows i d).name.now ≤ 400
+    → length written + length (slice_index_or rows i d).0.now ≤ 400
 name_fits text before written rows i d within so is =
-    let name = (slice_index_or rows i d).name.now in
+    let name = (slice_index_or rows i d).0.now in
     let whole = part_fits ((text ++ before) ++ name) _ (one_more text before rows i d within is) in
     rw so (omega (arith, length-append (text ++ before) name, whole))
 

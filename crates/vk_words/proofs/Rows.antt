@@ -24,7 +24,7 @@ each_is_found =
 
 -- whether a row has that name
 abbrev has_name : List ℕ → CommandRow → Bool
-has_name word row = bytes_eq row.name.now word
+has_name word row = bytes_eq row.0.now word
 
 -- what is found of the rows that are seen is what is seen of the row that is found
 find_seen :
@@ -34,7 +34,7 @@ find_seen :
 find_seen word [] = refl
 find_seen word (row ∷ rows) =
     let seen = find (λ r. bytes_eq r.name word) (map row_seen rows) in
-    elim (bytes_eq row.name.now word) as
+    elim (bytes_eq row.0.now word) as
     (λ b. option_map row_seen (cond b (Some row) (find (has_name word) rows))
     ≡ cond b (Some (row_seen row)) seen) [
       | true ↦ refl

@@ -7,10 +7,13 @@ use Rattle.vk_words.specs.declared.command.Command.{Command}
 use Rattle.vk_words.specs.declared.command.Command.TheVariants as commands
 use Rattle.vk_words.specs.declared.table.Verb.{Verb}
 use Rattle.vk_words.specs.declared.table.Verb.TheVariants as verbs
-use Rattle.vk_words.specs.Claims.{kind_named}
+use Rattle.vk_words.specs.Audits.{AuditWords, audit_seen}
+use Rattle.vk_words.specs.Audits as audits
+use Rattle.vk_words.specs.Claims.{ClaimWords, claim_order_seen, kind_named}
+use Rattle.vk_words.specs.Claims as claims
 use Rattle.vk_words.specs.declared.claim.ClaimKind.{ClaimKind}
 use Rattle.vk_words.specs.Coins.{CoinWords, IsCoinOrder, coin_by, coin_seen}
-use Rattle.vk_words.specs.Names.{ConfrontWords, ExtractWords, VerifyWords, confront_in, confront_seen, extract_in, extract_seen, name_at, verify_in, verify_seen, nth_word}
+use Rattle.vk_words.specs.Names.{confront_in, extract_in, name_at, verify_in, nth_word}
 use Rattle.vk_words.specs.Orders.{HouseWords, IsHouseOrder, IsSealOrder, SealWords, house_by, house_seen, seal_in, seal_seen}
 use Rattle.vk_words.specs.Table.{Row, row_of}
 
@@ -18,28 +21,20 @@ use Rattle.vk_words.specs.Table.{Row, row_of}
 pub data CommandWords : Type 0 where
   Seal : SealWords → CommandWords
   House : HouseWords → CommandWords
-  Verify : VerifyWords → CommandWords
-  Extract : ExtractWords → CommandWords
-  Confront : ConfrontWords → CommandWords
-  Report : List ℕ → CommandWords
+  Audit : AuditWords → CommandWords
   Sample : ℕ → CommandWords
   Ceremony : List ℕ → CommandWords
-  ClaimVerify : VerifyWords → CommandWords
-  ClaimExtract : ExtractWords → CommandWords
+  Claim : ClaimWords → CommandWords
   ClaimSample : ClaimKind → ℕ → CommandWords
   Coin : CoinWords → CommandWords
 
 abbrev pub command_seen : Command → CommandWords
 command_seen (commands.Seal order) = Seal (seal_seen order)
 command_seen (commands.House order) = House (house_seen order)
-command_seen (commands.Verify names) = Verify (verify_seen names)
-command_seen (commands.Extract names) = Extract (extract_seen names)
-command_seen (commands.Confront names) = Confront (confront_seen names)
-command_seen (commands.Report board) = Report board.now
+command_seen (commands.Audit order) = Audit (audit_seen order)
 command_seen (commands.Sample number) = Sample number
 command_seen (commands.Ceremony script) = Ceremony script.now
-command_seen (commands.ClaimVerify names) = ClaimVerify (verify_seen names)
-command_seen (commands.ClaimExtract names) = ClaimExtract (extract_seen names)
+command_seen (commands.Claim order) = Claim (claim_order_seen order)
 command_seen (commands.ClaimSample kind number) = ClaimSample kind number
 command_seen (commands.Coin order) = Coin (coin_seen order)
 
@@ -58,14 +53,18 @@ claim_sample_in words = kind_named (nth_word words 1) >>? λ kind. option_map (C
 -- the command of that first word, by the words behind it
 abbrev pub command_by : Verb → List (List ℕ) → Option CommandWords
 command_by verbs.Seal words = option_map Seal (seal_in words)
-command_by verbs.Verify words = option_map Verify (verify_in words)
-command_by verbs.Extract words = option_map Extract (extract_in words)
-command_by verbs.Confront words = option_map Confront (confront_in words)
-command_by verbs.Report words = option_map Report (name_at words 1)
+command_by verbs.Verify words = option_map (λ names. Audit (audits.Verify names)) (verify_in words)
+command_by verbs.Extract words =
+    option_map (λ names. Audit (audits.Extract names)) (extract_in words)
+command_by verbs.Confront words =
+    option_map (λ names. Audit (audits.Confront names)) (confront_in words)
+command_by verbs.Report words = option_map (λ board. Audit (audits.Report board)) (name_at words 1)
 command_by verbs.Sample words = option_map Sample (decimal_of (2 ^ 64 - 1) (nth_word words 1))
 command_by verbs.Ceremony words = option_map Ceremony (name_at words 1)
-command_by verbs.ClaimVerify words = option_map ClaimVerify (verify_in words)
-command_by verbs.ClaimExtract words = option_map ClaimExtract (extract_in words)
+command_by verbs.ClaimVerify words =
+    option_map (λ names. Claim (claims.Verify names)) (verify_in words)
+command_by verbs.ClaimExtract words =
+    option_map (λ names. Claim (claims.Extract names)) (extract_in words)
 command_by verbs.ClaimSample words = claim_sample_in words
 command_by verbs.CoinPart words = option_map Coin (coin_by verbs.CoinPart words)
 command_by verbs.CoinJoin words = option_map Coin (coin_by verbs.CoinJoin words)

@@ -1,4 +1,5 @@
 pub mod Names
+pub mod Audits
 pub mod Table
 pub mod Usage
 pub mod Orders

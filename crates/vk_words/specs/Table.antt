@@ -48,4 +48,4 @@ unfoldable pub row_of : List ℕ → Option Row
 row_of word = find (λ row. bytes_eq row.name word) commands
 
 abbrev pub row_seen : CommandRow → Row
-row_seen row = command_row row.name.now row.verb row.words row.most row.asks_house
+row_seen row = command_row row.0.now row.1 row.2 row.3 row.4

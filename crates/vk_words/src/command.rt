@@ -4,13 +4,12 @@ ghost use Rattle.std.specs.Prelude.{◌≡◌, IfSome, IsFalse, length, map, opt
 ghost use Rattle.vk_words.specs.Commands.{AsksNoKeeper, IsCommand, command_by, command_seen, command_words, first_asks, house_in, house_words};
 ghost use Rattle.vk_words.specs.Orders.{IsHouseOrder, house_seen};
 
+use crate::audits::{AuditOrder, ClaimOrder};
 use crate::claim::{ClaimKind, claim_kind};
 use crate::coins::{CoinOrder, coin_order};
-use crate::names::{
-    ConfrontNames, ExtractNames, VerifyNames, confront_names, extract_names, verify_names,
-};
+use crate::names::{confront_names, extract_names, verify_names};
 use crate::orders::{HouseOrder, SealOrder, house_order, seal_order};
-use crate::table::{Verb, row_of};
+use crate::table::{CommandRow, Verb, row_of};
 use crate::word::{name, word};
 use vk_lines::read_decimal;
 
@@ -19,18 +18,12 @@ use vk_lines::read_decimal;
 pub enum Command<'a> {
     Seal(SealOrder<'a>),
     House(HouseOrder<'a>),
-    Verify(VerifyNames<'a>),
-    Extract(ExtractNames<'a>),
-    Confront(ConfrontNames<'a>),
-    /// The name of the board.
-    Report(&'a str),
+    Audit(AuditOrder<'a>),
     /// The number of the sample.
     Sample(u64),
     /// The name of the script.
     Ceremony(&'a str),
-    /// The same of a claim of any circuit in the place of a board.
-    ClaimVerify(VerifyNames<'a>),
-    ClaimExtract(ExtractNames<'a>),
+    Claim(ClaimOrder<'a>),
     /// The kind of the sample's claim, and its number.
     ClaimSample { kind: ClaimKind, number: u64 },
     /// A challenge that the auctioneer doesn't choose, or a share of one.
@@ -47,14 +40,14 @@ fn command_by(verb: Verb, words: &[String]) -> Option<Command<'_>>
         Verb::Announce | Verb::Submit | Verb::Prove | Verb::Answer | Verb::Show => {
             Command::House(house_order(verb, words)?)
         }
-        Verb::Verify => Command::Verify(verify_names(words)?),
-        Verb::Extract => Command::Extract(extract_names(words)?),
-        Verb::Confront => Command::Confront(confront_names(words)?),
-        Verb::Report => Command::Report(name(words, 1)?),
+        Verb::Verify => Command::Audit(AuditOrder::Verify(verify_names(words)?)),
+        Verb::Extract => Command::Audit(AuditOrder::Extract(extract_names(words)?)),
+        Verb::Confront => Command::Audit(AuditOrder::Confront(confront_names(words)?)),
+        Verb::Report => Command::Audit(AuditOrder::Report(name(words, 1)?)),
         Verb::Sample => Command::Sample(read_decimal(word(words, 1).as_bytes(), u64::MAX)?),
         Verb::Ceremony => Command::Ceremony(name(words, 1)?),
-        Verb::ClaimVerify => Command::ClaimVerify(verify_names(words)?),
-        Verb::ClaimExtract => Command::ClaimExtract(extract_names(words)?),
+        Verb::ClaimVerify => Command::Claim(ClaimOrder::Verify(verify_names(words)?)),
+        Verb::ClaimExtract => Command::Claim(ClaimOrder::Extract(extract_names(words)?)),
         Verb::ClaimSample => {
             let kind = claim_kind(word(words, 1))?;
             let number = read_decimal(word(words, 2).as_bytes(), u64::MAX)?;
@@ -74,11 +67,11 @@ pub fn command_of(words: &[String]) -> Option<Command<'_>>
     ensures value { option_map command_seen result ≡ command_words (map string_bytes words.now) }
     ensures limits { IfSome result IsCommand }
 {
-    let row = row_of(word(words, 0))?;
-    if words.len() < row.words || row.most < words.len() {
+    let CommandRow(_, verb, fewest, most, _) = *row_of(word(words, 0))?;
+    if words.len() < fewest || most < words.len() {
         return None;
     }
-    let command = command_by(row.verb, words);
+    let command = command_by(verb, words);
     command
 }
 
@@ -90,7 +83,7 @@ pub fn may_ask_house(words: &[String]) -> bool
     ensures none { IsFalse result → AsksNoKeeper (command_words (map string_bytes words.now)) }
 {
     match row_of(word(words, 0)) {
-        Some(row) => row.asks_house,
+        Some(CommandRow(.., asks_house)) => *asks_house,
         None => false,
     }
 }

@@ -5,7 +5,7 @@ ghost use Rattle.vk_words.specs.Commands.{command_words};
 ghost use Rattle.vk_words.specs.Hints.{first_unfit, hint_in};
 
 use crate::kinds::{WordKind, is_of_kind, kinds_of};
-use crate::table::row_of;
+use crate::table::{CommandRow, row_of};
 use crate::word::word;
 
 /// Why words are no command.
@@ -49,17 +49,17 @@ fn first_unfit(kinds: &[WordKind], words: &[String], place: usize) -> Option<Hin
 fn hint_by(words: &[String]) -> Option<Hint>
     ensures { result ≡ hint_in (map string_bytes words.now) }
 {
-    let Some(row) = row_of(word(words, 0)) else {
+    let Some(CommandRow(_, verb, fewest, most, _)) = row_of(word(words, 0)) else {
         return Some(Hint::Command);
     };
-    if words.len() < row.words || row.most < words.len() {
+    if words.len() < *fewest || *most < words.len() {
         return Some(Hint::Count {
-            fewest: row.words,
-            most: row.most,
+            fewest: *fewest,
+            most: *most,
             given: words.len(),
         });
     }
-    let hint = first_unfit(kinds_of(row.verb), words, 1);
+    let hint = first_unfit(kinds_of(*verb), words, 1);
     hint
 }
 

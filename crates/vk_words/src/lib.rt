@@ -2,6 +2,7 @@
 #![tactic(auto)]
 
 mod advice;
+mod audits;
 mod claim;
 mod coins;
 mod command;
@@ -16,6 +17,7 @@ mod usage;
 mod word;
 
 pub use advice::hint_line;
+pub use audits::{AuditOrder, ClaimOrder};
 pub use claim::ClaimKind;
 pub use coins::{ChallengeNames, CoinOrder, PartOrder};
 pub use command::{Command, command_of, house_order_of, may_ask_house};

@@ -32,146 +32,38 @@ pub enum Verb {
 
 /// What is asked of the words of a command.
 #[derive(Clone, Copy, Debug)]
-pub struct CommandRow {
+pub struct CommandRow(
     /// Its first word.
-    pub name: &'static str,
-    pub verb: Verb,
+    pub &'static str,
+    pub Verb,
     /// The fewest words that it has, the first included.
-    pub words: usize,
+    pub usize,
     /// And the most.
-    pub most: usize,
+    pub usize,
     /// Whether it asks the keeper of the house: a command of the house, or a ceremony of such.
-    pub asks_house: bool,
-}
+    pub bool,
+);
 
 /// The commands, in the order of the usage line.
 static COMMANDS: [CommandRow; 18] = [
-    CommandRow {
-        name: "seal",
-        verb: Verb::Seal,
-        words: 9,
-        most: 9,
-        asks_house: false,
-    },
-    CommandRow {
-        name: "announce",
-        verb: Verb::Announce,
-        words: 4,
-        most: 5,
-        asks_house: true,
-    },
-    CommandRow {
-        name: "submit",
-        verb: Verb::Submit,
-        words: 4,
-        most: 4,
-        asks_house: true,
-    },
-    CommandRow {
-        name: "prove",
-        verb: Verb::Prove,
-        words: 4,
-        most: 4,
-        asks_house: true,
-    },
-    CommandRow {
-        name: "answer",
-        verb: Verb::Answer,
-        words: 4,
-        most: 4,
-        asks_house: true,
-    },
-    CommandRow {
-        name: "show",
-        verb: Verb::Show,
-        words: 2,
-        most: 2,
-        asks_house: true,
-    },
-    CommandRow {
-        name: "verify",
-        verb: Verb::Verify,
-        words: 4,
-        most: 4,
-        asks_house: false,
-    },
-    CommandRow {
-        name: "extract",
-        verb: Verb::Extract,
-        words: 6,
-        most: 6,
-        asks_house: false,
-    },
-    CommandRow {
-        name: "confront",
-        verb: Verb::Confront,
-        words: 7,
-        most: 7,
-        asks_house: false,
-    },
-    CommandRow {
-        name: "report",
-        verb: Verb::Report,
-        words: 2,
-        most: 2,
-        asks_house: false,
-    },
-    CommandRow {
-        name: "sample",
-        verb: Verb::Sample,
-        words: 2,
-        most: 2,
-        asks_house: false,
-    },
-    CommandRow {
-        name: "ceremony",
-        verb: Verb::Ceremony,
-        words: 2,
-        most: 2,
-        asks_house: true,
-    },
-    CommandRow {
-        name: "claim-verify",
-        verb: Verb::ClaimVerify,
-        words: 4,
-        most: 4,
-        asks_house: false,
-    },
-    CommandRow {
-        name: "claim-extract",
-        verb: Verb::ClaimExtract,
-        words: 6,
-        most: 6,
-        asks_house: false,
-    },
-    CommandRow {
-        name: "claim-sample",
-        verb: Verb::ClaimSample,
-        words: 3,
-        most: 3,
-        asks_house: false,
-    },
-    CommandRow {
-        name: "coin-part",
-        verb: Verb::CoinPart,
-        words: 6,
-        most: 6,
-        asks_house: false,
-    },
-    CommandRow {
-        name: "coin-join",
-        verb: Verb::CoinJoin,
-        words: 3,
-        most: 3,
-        asks_house: false,
-    },
-    CommandRow {
-        name: "coin-board",
-        verb: Verb::CoinBoard,
-        words: 3,
-        most: 3,
-        asks_house: false,
-    },
+    CommandRow("seal", Verb::Seal, 9, 9, false),
+    CommandRow("announce", Verb::Announce, 4, 5, true),
+    CommandRow("submit", Verb::Submit, 4, 4, true),
+    CommandRow("prove", Verb::Prove, 4, 4, true),
+    CommandRow("answer", Verb::Answer, 4, 4, true),
+    CommandRow("show", Verb::Show, 2, 2, true),
+    CommandRow("verify", Verb::Verify, 4, 4, false),
+    CommandRow("extract", Verb::Extract, 6, 6, false),
+    CommandRow("confront", Verb::Confront, 7, 7, false),
+    CommandRow("report", Verb::Report, 2, 2, false),
+    CommandRow("sample", Verb::Sample, 2, 2, false),
+    CommandRow("ceremony", Verb::Ceremony, 2, 2, true),
+    CommandRow("claim-verify", Verb::ClaimVerify, 4, 4, false),
+    CommandRow("claim-extract", Verb::ClaimExtract, 6, 6, false),
+    CommandRow("claim-sample", Verb::ClaimSample, 3, 3, false),
+    CommandRow("coin-part", Verb::CoinPart, 6, 6, false),
+    CommandRow("coin-join", Verb::CoinJoin, 3, 3, false),
+    CommandRow("coin-board", Verb::CoinBoard, 3, 3, false),
 ];
 
 /// The commands, in the order of the usage line.
@@ -184,9 +76,9 @@ pub fn command_rows() -> &'static [CommandRow]
 
 /// The first of the rows whose name is the word.
 fn first_named<'a>(rows: &'a [CommandRow], word: &str) -> Option<&'a CommandRow>
-    ensures { option_copied result ≡ find (λ row. bytes_eq row.name.now word.now) rows.now }
+    ensures { option_copied result ≡ find (λ row. bytes_eq row.0.now word.now) rows.now }
 {
-    rows.iter().find(|row| row.name == word)
+    rows.iter().find(|row| row.0 == word)
 }
 
 /// The command that the word names.

@@ -13,7 +13,7 @@ pub fn usage_line() -> ShortText
     let mut text = ShortText::new();
     let mut before = "usage: vickrey ";
     for row in command_rows() {
-        text = text.word(before).word(row.name);
+        text = text.word(before).word(row.0);
         before = "|";
     }
     text.word("\n")

@@ -1,5 +1,6 @@
 use Rattle.vk_effect.proofs.Acting.{read_and_said}
-use Rattle.vk_audit.specs.Audits.{audit_said, audit_seen}
+use Rattle.vk_words.specs.Audits.{audit_seen}
+use Rattle.vk_audit.specs.Audits.{audit_said}
 use Rattle.vk_app.proofs.command.read.Goals as goal
 
 pub returns-clause-acts : goal.returns-clause-acts

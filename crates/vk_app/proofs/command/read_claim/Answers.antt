@@ -1,5 +1,6 @@
 use Rattle.vk_effect.proofs.Acting.{read_and_said}
-use Rattle.vk_claims.specs.Orders.{claim_order_seen, claim_said}
+use Rattle.vk_words.specs.Claims.{claim_order_seen}
+use Rattle.vk_claims.specs.Orders.{claim_said}
 use Rattle.vk_app.proofs.command.read_claim.Goals as goal
 
 pub returns-clause-acts : goal.returns-clause-acts

@@ -3,10 +3,11 @@ use Rattle.vk_io.specs.Files.{Files}
 use Rattle.vk_keeper.specs.Ledgers.{Ledger}
 use Rattle.vk_effect.specs.Effects.{Outside, outside, stores}
 use Rattle.vk_app.specs.Commands.{DoesWork, work_on}
-use Rattle.vk_app.proofs.Audited.{told_audits, told_claim_headline, told_claims, told_headline}
+use Rattle.vk_app.specs.Promises.{Audits, ClaimExtractIsComplete, ClaimExtractIsSound, ClaimHeadline, Claims, ExtractIsComplete, ExtractIsSound, Headline}
+use Rattle.vk_app.proofs.Audited.{ended_audits, ended_claim_headline, ended_claims, ended_headline, told_of}
 use Rattle.vk_app.proofs.Freely.{sampled_done, sampled_stopped}
-use Rattle.vk_app.proofs.Kept.{AlsoFree, neither, told_ceremony, told_coin, told_house, told_seal, told_usage, unended_house}
-use Rattle.vk_app.proofs.Sound.{told_claim_complete, told_claim_sound, told_complete, told_sound}
+use Rattle.vk_app.proofs.Kept.{neither, told_ceremony, told_coin, told_house, told_seal, told_usage, unended_house}
+use Rattle.vk_app.proofs.Sound.{ended_claim_complete, ended_claim_sound, ended_complete, ended_sound}
 use Rattle.vk_app.proofs.command.run.Given.{Over}
 use Rattle.vk_app.proofs.command.run.Goals.{In-Ok}
 use Rattle.vk_app.proofs.command.run.Goals as goal
@@ -25,50 +26,41 @@ by_end : {P : Option Files → Option Ledger → List (List ℕ) → ℕ → Opt
     (g.W.Sink.taken c.perform.new.out))
 by_end g c follows = follows _ _ _ _ _ _ c.in-Ok.ensures.ends
 
--- and freely, where the work isn't one alone
-by_free_end : {P : Option Files → Option Ledger → List (List ℕ) → ℕ → Option (List ℕ) → Outside
-    → Type 0} (g : Over) (c : In-Ok g)
-    → ((held : Option Files) (ledger : Option Ledger) (words : List (List ℕ)) (status : ℕ)
-    (old : Option (List ℕ)) (new : Outside)
-    → AlsoFree held ledger words status old new (Ok status) held ledger
-    → P held ledger words status old new)
-    → P (g.S.Shelf.held c.args.shelf.now) (g.K.Keeper.ledger c.args.keeper.now)
-    (map string_bytes c.args.words.now) c.in-Ok.status (g.W.Sink.taken c.args.out.now)
-    (outside (stores (g.S.Shelf.held c.perform.new.shelf) (g.K.Keeper.ledger c.perform.new.keeper))
-    (g.W.Sink.taken c.perform.new.out))
-by_free_end g c follows = follows _ _ _ _ _ _ (c.in-Ok.ensures.ends, c.in-Ok.ensures.free)
-
 pub returns-in-Ok-clause-headline : goal.returns-in-Ok-clause-headline
 returns-in-Ok-clause-headline g c =
-    by_end g (goal.at.returns-in-Ok-clause-headline g c).In-Ok told_headline
+    by_end g (goal.at.returns-in-Ok-clause-headline g c).In-Ok (told_of Headline ended_headline)
 
 pub returns-in-Ok-clause-sound : goal.returns-in-Ok-clause-sound
 returns-in-Ok-clause-sound g c =
-    by_end g (goal.at.returns-in-Ok-clause-sound g c).In-Ok told_sound
+    by_end g (goal.at.returns-in-Ok-clause-sound g c).In-Ok (told_of ExtractIsSound ended_sound)
 
 pub returns-in-Ok-clause-complete : goal.returns-in-Ok-clause-complete
 returns-in-Ok-clause-complete g c =
-    by_end g (goal.at.returns-in-Ok-clause-complete g c).In-Ok told_complete
+    by_end g (goal.at.returns-in-Ok-clause-complete g c).In-Ok
+    (told_of ExtractIsComplete ended_complete)
 
 pub returns-in-Ok-clause-claim_sound : goal.returns-in-Ok-clause-claim_sound
 returns-in-Ok-clause-claim_sound g c =
-    by_end g (goal.at.returns-in-Ok-clause-claim_sound g c).In-Ok told_claim_sound
+    by_end g (goal.at.returns-in-Ok-clause-claim_sound g c).In-Ok
+    (told_of ClaimExtractIsSound ended_claim_sound)
 
 pub returns-in-Ok-clause-claim_complete : goal.returns-in-Ok-clause-claim_complete
 returns-in-Ok-clause-claim_complete g c =
-    by_end g (goal.at.returns-in-Ok-clause-claim_complete g c).In-Ok told_claim_complete
+    by_end g (goal.at.returns-in-Ok-clause-claim_complete g c).In-Ok
+    (told_of ClaimExtractIsComplete ended_claim_complete)
 
 pub returns-in-Ok-clause-audits : goal.returns-in-Ok-clause-audits
 returns-in-Ok-clause-audits g c =
-    by_end g (goal.at.returns-in-Ok-clause-audits g c).In-Ok told_audits
+    by_end g (goal.at.returns-in-Ok-clause-audits g c).In-Ok (told_of Audits ended_audits)
 
 pub returns-in-Ok-clause-claim_headline : goal.returns-in-Ok-clause-claim_headline
 returns-in-Ok-clause-claim_headline g c =
-    by_end g (goal.at.returns-in-Ok-clause-claim_headline g c).In-Ok told_claim_headline
+    by_end g (goal.at.returns-in-Ok-clause-claim_headline g c).In-Ok
+    (told_of ClaimHeadline ended_claim_headline)
 
 pub returns-in-Ok-clause-claims : goal.returns-in-Ok-clause-claims
 returns-in-Ok-clause-claims g c =
-    by_end g (goal.at.returns-in-Ok-clause-claims g c).In-Ok told_claims
+    by_end g (goal.at.returns-in-Ok-clause-claims g c).In-Ok (told_of Claims ended_claims)
 
 pub returns-in-Ok-clause-seals : goal.returns-in-Ok-clause-seals
 returns-in-Ok-clause-seals g c = by_end g (goal.at.returns-in-Ok-clause-seals g c).In-Ok told_seal
@@ -78,7 +70,7 @@ returns-in-Ok-clause-coins g c = by_end g (goal.at.returns-in-Ok-clause-coins g 
 
 pub returns-in-Ok-clause-house : goal.returns-in-Ok-clause-house
 returns-in-Ok-clause-house g c =
-    by_free_end g (goal.at.returns-in-Ok-clause-house g c).In-Ok told_house
+    by_end g (goal.at.returns-in-Ok-clause-house g c).In-Ok told_house c.in-Ok.ensures.free
 
 pub returns-in-Ok-clause-ceremony : goal.returns-in-Ok-clause-ceremony
 returns-in-Ok-clause-ceremony g c =
@@ -86,10 +78,7 @@ returns-in-Ok-clause-ceremony g c =
 
 pub returns-in-Ok-clause-usage : goal.returns-in-Ok-clause-usage
 returns-in-Ok-clause-usage g c =
-    told_usage (g.S.Shelf.held c.args.shelf.now) (g.K.Keeper.ledger c.args.keeper.now)
-    (map string_bytes c.args.words.now) c.in-Ok.status (g.W.Sink.taken c.args.out.now)
-    (outside (stores (g.S.Shelf.held c.perform.new.shelf) (g.K.Keeper.ledger c.perform.new.keeper))
-    (g.W.Sink.taken c.perform.new.out)) c.in-Ok.ensures.ends c.in-Ok.ensures.usage
+    by_end g (goal.at.returns-in-Ok-clause-usage g c).In-Ok told_usage c.in-Ok.ensures.usage
 
 pub returns-in-Ok-clause-parts : goal.returns-in-Ok-clause-parts
 returns-in-Ok-clause-parts g c = λ is.
