@@ -15,7 +15,7 @@ use Rattle.vk_judge.specs.Statement.{StatementValue}
 use Rattle.vk_judge.specs.Behind.{in_part, later_wires, case_of, lane_fault, lane_judged, lanes_judged, counted, ends_judged, behind_judged}
 use Rattle.vk_judge.specs.Parts.{case_at, reply_judged, attempt_at, rest_judged, behind_in_parts}
 
-abbrev pair : {X Y : Type 0} → X → Y → Result (X × Y) Fault
+abbrev pub pair : {X Y : Type 0} → X → Y → Result (X × Y) Fault
 pair x y = Ok (x, y)
 
 -- a lane's tests, bracketed otherwise
