@@ -1,5 +1,5 @@
 -- What named files come to, from what is read of their first lines on.
-use Rattle.std.proofs.Common.{◌≡◌, ℕ, List, Result, Ok, Err, refl, ap, ◌∙◌}
+use Rattle.std.proofs.Common.{◌≡◌, ℕ, List, Result, Ok, refl, ap, ◌∙◌}
 use Rattle.std.specs.FinMap.{get}
 use Rattle.vk_residue.specs.Steps.{◌>>=◌}
 use Rattle.vk_io.specs.Files.{Files}
@@ -22,10 +22,8 @@ attempt_begun whole files file challenge reply =
         → (a >>= λ a. b >>= λ b. c >>= λ c. Ok (whole a b c))
         ≡ ((a >>= λ a. b >>= λ b. c >>= λ c. Ok (three_rests a b c)) >>= λ rests.
         Ok (whole rests.0 rests.1 rests.2))
-    by_three (Err fault) b c = refl
-    by_three (Ok a) (Err fault) c = refl
-    by_three (Ok a) (Ok b) (Err fault) = refl
     by_three (Ok a) (Ok b) (Ok c) = refl
+    by_three a b c = refl
 
 -- ---- two replies
 
@@ -45,12 +43,8 @@ files_begun whole files file first_challenge first_reply second_challenge second
         → (a >>= λ a. b >>= λ b. c >>= λ c. d >>= λ d. e >>= λ e. Ok (whole a b c d e))
         ≡ ((a >>= λ a. b >>= λ b. c >>= λ c. d >>= λ d. e >>= λ e. Ok (five_rests a b c d e)) >>=
         λ rests. Ok (whole rests.0 rests.1 rests.2 rests.3 rests.4))
-    by_five (Err fault) b c d e = refl
-    by_five (Ok a) (Err fault) c d e = refl
-    by_five (Ok a) (Ok b) (Err fault) d e = refl
-    by_five (Ok a) (Ok b) (Ok c) (Err fault) e = refl
-    by_five (Ok a) (Ok b) (Ok c) (Ok d) (Err fault) = refl
     by_five (Ok a) (Ok b) (Ok c) (Ok d) (Ok e) = refl
+    by_five a b c d e = refl
 
 -- the first of them is begun where all are
 pub file_begun : (files : Files)

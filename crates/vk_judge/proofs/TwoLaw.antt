@@ -31,10 +31,8 @@ ends_by : (accepted : Finding Fault) (file : Result (Unit {0} × Rest) Fault)
     → found_by accepted (file >>= λ _. first >>= λ _. Ok tt) second
     ≡ two_result accepted (file >>= λ _. first >>= λ _. Ok tt)
     (file >>= λ _. second >>= λ _. Ok tt)
-ends_by accepted (Err fault) first second = refl
-ends_by accepted (Ok over) (Err fault) second = refl
-ends_by accepted (Ok over) (Ok done) (Err fault) = refl
 ends_by accepted (Ok over) (Ok done) (Ok last) = refl
+ends_by accepted file first second = refl
 
 ends_are : (accepted : Finding Fault) (rests : Rests)
     → ends_found accepted rests

@@ -1,8 +1,8 @@
 -- What two accepted replies give behind a front.
-use Rattle.std.proofs.Common.{◌≡◌, ℕ, zero, suc, ◌+◌, ◌-◌, ◌<◌, Bool, List, [], ◌∷◌, ◌++◌, length, Some, Result, Ok, Err, refl, ap, sym, ◌∙◌, subst, arith, length-append}
+use Rattle.std.proofs.Common.{◌≡◌, ℕ, zero, suc, ◌+◌, ◌-◌, ◌<◌, Bool, List, [], ◌∷◌, ◌++◌, length, Some, Result, Ok, refl, ap, sym, ◌∙◌, subst, arith}
 use Rattle.std.specs.Prelude.{slice_index_or, slice_get}
 use Rattle.vk_residue.specs.Steps.{◌>>=◌}
-use Rattle.vk_lines.specs.Lines.{Rest, end_at}
+use Rattle.vk_lines.specs.Lines.{Rest}
 use Rattle.vk_lines.specs.Forms.{many_onto}
 use Rattle.vk_plan.specs.Plans.{PlanValue}
 use Rattle.vk_wire.specs.declared.wire.Shown.{Shown}
@@ -20,7 +20,7 @@ use Rattle.vk_judge.specs.Statement.{StatementValue, IsStatement}
 use Rattle.vk_judge.specs.Behind.{in_part, later_wires, case_of, lane_fault, counted, behind_judged}
 use Rattle.vk_judge.specs.Begun.{from_start}
 use Rattle.vk_judge.specs.Parts.{case_at, reply_judged, attempt_at, rest_judged}
-use Rattle.vk_judge.specs.Two.{Ahead, Rests, BothAreAccepted, accepted_of, two_result, of_first, of_second, found_by, both_shown, second_shown, lane_shown, two_lane_at, ends_found, ahead_from, ahead_after, ahead_behind, with_lane, base_behind, second_begun, ahead_by, base_in}
+use Rattle.vk_judge.specs.Two.{Ahead, Rests, BothAreAccepted, accepted_of, two_result, of_first, of_second, both_shown, second_shown, lane_shown, two_lane_at, ahead_from, ahead_after, ahead_behind, with_lane, base_behind, second_begun, ahead_by, base_in}
 use Rattle.vk_judge.specs.TwoLaw.{bits_read}
 use Rattle.vk_judge.specs.Acceptance.{AcceptsBehind, bit_of, no_lines}
 use Rattle.vk_judge.specs.TwoValues.{base_with, GivesBehind, AcceptedBehindGive, OnlyAcceptedBehind}
@@ -388,8 +388,7 @@ accepted_behind_give s is front file first_challenge first_reply second_challeng
 both_passed : (accepted : Finding Fault) (first second : Result (Unit {0}) Fault)
     → BothAreAccepted (two_result accepted first second) → (first ≡ Ok tt) × (second ≡ Ok tt)
 both_passed accepted (Ok done) (Ok over) are = (refl, refl)
-both_passed accepted (Ok tt) (Err fault) are = absurd are
-both_passed accepted (Err fault) second are = absurd are
+both_passed accepted first second are = absurd are
 
 pub only_accepted_behind : OnlyAcceptedBehind
 only_accepted_behind s is front file first_challenge first_reply second_challenge second_reply rest

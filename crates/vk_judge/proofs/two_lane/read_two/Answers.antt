@@ -1,5 +1,4 @@
 use Rattle.std.proofs.Common.{rules, refl, Err}
-use Rattle.vk_lines.specs.Lines.{rest_of}
 use Rattle.vk_judge.specs.Behind.{Judges}
 use Rattle.vk_judge.specs.Two.{two_lane_at, rests_of}
 use Rattle.vk_judge.specs.declared.stage.TwoLane.{TwoLane}
