@@ -15,4 +15,5 @@ returns-clause-modelled g c =
     omega (arith, c.requires.base.first, c.requires.within, c.if-given-lanes.false, lanes) in
     let second : c.args.given < length c.args.base.now.second_bits =
     omega (arith, c.requires.base.second, c.requires.within, c.if-given-lanes.false, lanes) in
-    lane_given _ _ _ _ _ _ _ _ first second (search rules) (search rules) c.read_two-lane.ensures.modelled
+    lane_given _ _ _ _ _ _ _ _ first second (search rules) (search rules)
+    c.read_two-lane.ensures.modelled

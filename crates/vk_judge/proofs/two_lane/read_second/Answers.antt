@@ -13,6 +13,7 @@ returns-clause-modelled g c =
     → Judges (λ (done : Unit {0}). done) c.judge_on-first.result
     (rest_judged c.args.base.now.statement (c.args.lane + 1) (drop c.args.lane bits)
     (rest_of c.args.readers.now.pair.file files) (rest_of c.args.readers.now.pair.reply files))) in
-    second_found _ _ _ _ _ _ _ _ _ c.read_checked-judged.ensures.shelf.held c.is_refused-asked.ensures
+    second_found _ _ _ _ _ _ _ _ _ c.read_checked-judged.ensures.shelf.held
+    c.is_refused-asked.ensures
     c.of_second-second.ensures.found c.read_checked-judged.ensures.modelled
     (subst P c.as_slice.ensures c.judge_on-first.ensures.modelled)

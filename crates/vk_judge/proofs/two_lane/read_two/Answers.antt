@@ -9,7 +9,8 @@ use Rattle.vk_judge.proofs.two_lane.read_two.Goals as goal
 pub returns-in_err-case-clause-modelled : goal.returns-in_err-case-clause-modelled
 unfolding two_lane_at
 returns-in_err-case-clause-modelled g c =
-    first_refused _ _ _ _ _ _ _ _ (search rules) c.in_err-case.ensures.found c.read_case.ensures.modelled
+    first_refused _ _ _ _ _ _ _ _ (search rules) c.in_err-case.ensures.found
+    c.read_case.ensures.modelled
 
 pub returns-in_err-first-clause-modelled : goal.returns-in_err-first-clause-modelled
 unfolding two_lane_at
