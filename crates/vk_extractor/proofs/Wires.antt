@@ -39,19 +39,13 @@ pub wire_value_is_sum : (kind : WireKind) (place : Place) (digests : WireCom) (z
     → wire_value kind zero one ≡ sum g h
 wire_value_is_sum Split place digests (Half u) (Half v) g h weight first second = let e = first.1 in
     let f = second.1 in cc
-wire_value_is_sum Split place digests (Half u) (Whole c d) g h weight first second = absurd second
-wire_value_is_sum Split place digests (Half u) (Spent s c) g h weight first second = absurd second
-wire_value_is_sum Split place digests (Whole a b) one g h weight first second = absurd first
-wire_value_is_sum Split place digests (Spent s a) one g h weight first second = absurd first
-wire_value_is_sum (Pair i) place digests (Half u) one g h weight first second = absurd first
-wire_value_is_sum (Pair i) place digests (Whole a b) (Half v) g h weight first second =
-    absurd second
-wire_value_is_sum (Pair i) place digests (Whole a b) (Whole c d) g h weight first second =
-    absurd second
+wire_value_is_sum Split place digests (Half u) one g h weight first second = absurd second
+wire_value_is_sum Split place digests zero one g h weight first second = absurd first
 wire_value_is_sum (Pair i) place digests (Whole a b) (Spent s o) g h weight first second =
     rw second.1 (pair_sum (2 ^ i) a.value b.value g h (omega (arith, pow_pos i))
     (weight_bound i weight) first.2.0 first.2.1)
-wire_value_is_sum (Pair i) place digests (Spent s a) one g h weight first second = absurd first
+wire_value_is_sum (Pair i) place digests (Whole a b) one g h weight first second = absurd second
+wire_value_is_sum (Pair i) place digests zero one g h weight first second = absurd first
 
 -- an entry with the mask g and the mask come to 0 or to the weight
 entry_sum : (p a b g h : ℕ) → 1 ≤ p → p ≤ 1152921504606846976 → g < modulus
@@ -74,15 +68,12 @@ pub sum_is_fair : (kind : WireKind) (place : Place) (digests : WireCom) (zero on
     → Reads kind place digests zero false g → Reads kind place digests one true h → Agree zero one
     → MayHave kind (sum g h)
 sum_is_fair Split place digests zero one g h weight first second same = tt
-sum_is_fair (Pair i) place digests (Half u) one g h weight first second same = absurd first
-sum_is_fair (Pair i) place digests (Whole a b) (Half v) g h weight first second same = absurd second
-sum_is_fair (Pair i) place digests (Whole a b) (Whole c d) g h weight first second same =
-    absurd second
 sum_is_fair (Pair i) place digests (Whole a b) (Spent s o) g h weight first second same =
     entry_sum (2 ^ i) a.value b.value g h (omega (arith, pow_pos i)) (weight_bound i weight)
     first.2.0 first.2.1
     (rw second.1 at (spent_is_entry a b s o same))
-sum_is_fair (Pair i) place digests (Spent s a) one g h weight first second same = absurd first
+sum_is_fair (Pair i) place digests (Whole a b) one g h weight first second same = absurd second
+sum_is_fair (Pair i) place digests zero one g h weight first second same = absurd first
 
 -- of an accepted pair both openings of the spent entry open it
 pub entry_opens : (kind : WireKind) (place : Place) (digests : WireCom) (a b : Opening) (s : Bool)

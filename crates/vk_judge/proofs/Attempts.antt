@@ -1,14 +1,13 @@
 -- What named files come to, from what is read of their first lines on.
-use Rattle.std.proofs.Common.{◌≡◌, ℕ, List, Result, Ok, Err, refl, ap}
+use Rattle.std.proofs.Common.{◌≡◌, ℕ, List, Result, Ok, refl, ap, ◌∙◌}
 use Rattle.std.specs.FinMap.{get}
 use Rattle.vk_residue.specs.Steps.{◌>>=◌}
 use Rattle.vk_io.specs.Files.{Files}
 use Rattle.vk_lines.specs.Lines.{Rest}
 use Rattle.vk_judge.specs.declared.answers.Part.TheVariants as part
 use Rattle.vk_judge.specs.declared.answers.VErr.{VErr}
-use Rattle.vk_judge.specs.Begun.{five_rests, of_files}
-use Rattle.vk_judge.specs.Begun.{begun_file, of_attempt, three_rests}
-use Rattle.vk_judge.proofs.Steps.{value_same}
+use Rattle.vk_judge.specs.Begun.{begun_file, five_rests, of_attempt, of_files, three_rests}
+use Rattle.vk_judge.proofs.Steps.{bind_ok, value_same}
 
 pub attempt_begun : {X : Type 0} (whole : Rest → Rest → Rest → X) (files : Files)
     (file challenge reply : List ℕ)
@@ -23,10 +22,8 @@ attempt_begun whole files file challenge reply =
         → (a >>= λ a. b >>= λ b. c >>= λ c. Ok (whole a b c))
         ≡ ((a >>= λ a. b >>= λ b. c >>= λ c. Ok (three_rests a b c)) >>= λ rests.
         Ok (whole rests.0 rests.1 rests.2))
-    by_three (Err fault) b c = refl
-    by_three (Ok a) (Err fault) c = refl
-    by_three (Ok a) (Ok b) (Err fault) = refl
     by_three (Ok a) (Ok b) (Ok c) = refl
+    by_three a b c = refl
 
 -- ---- two replies
 
@@ -46,12 +43,8 @@ files_begun whole files file first_challenge first_reply second_challenge second
         → (a >>= λ a. b >>= λ b. c >>= λ c. d >>= λ d. e >>= λ e. Ok (whole a b c d e))
         ≡ ((a >>= λ a. b >>= λ b. c >>= λ c. d >>= λ d. e >>= λ e. Ok (five_rests a b c d e)) >>=
         λ rests. Ok (whole rests.0 rests.1 rests.2 rests.3 rests.4))
-    by_five (Err fault) b c d e = refl
-    by_five (Ok a) (Err fault) c d e = refl
-    by_five (Ok a) (Ok b) (Err fault) d e = refl
-    by_five (Ok a) (Ok b) (Ok c) (Err fault) e = refl
-    by_five (Ok a) (Ok b) (Ok c) (Ok d) (Err fault) = refl
     by_five (Ok a) (Ok b) (Ok c) (Ok d) (Ok e) = refl
+    by_five a b c d e = refl
 
 -- the first of them is begun where all are
 pub file_begun : (files : Files)
@@ -60,30 +53,9 @@ pub file_begun : (files : Files)
     → of_files five_rests files file first_challenge first_reply second_challenge second_reply
     ≡ Ok rests → begun_file part.Board (get files file) ≡ Ok rests.0
 file_begun files file first_challenge first_reply second_challenge second_reply rests ok =
-    bind_first (begun_file part.Board (get files file))
-    (λ a. begun_file part.Challenge (get files first_challenge) >>= λ b. begun_file part.Reply
-    (get files first_reply) >>= λ c. begun_file part.SecondChallenge
-    (get files second_challenge) >>= λ d. begun_file part.SecondReply (get files second_reply)
-    >>= λ e. Ok (five_rests a b c d e))
-    (λ a. four a (begun_file part.Challenge (get files first_challenge))
-    (begun_file part.Reply (get files first_reply))
-    (begun_file part.SecondChallenge (get files second_challenge))
-    (begun_file part.SecondReply (get files second_reply))) ok
-  where
-    four : (a : Rest) (b c d e : Result Rest VErr)
-        → (b >>= λ b. c >>= λ c. d >>= λ d. e >>= λ e. Ok (five_rests a b c d e)) ≡ Ok rests
-        → a ≡ rests.0
-    four a (Err fault) c d e ok = cc
-    four a (Ok b) (Err fault) d e ok = cc
-    four a (Ok b) (Ok c) (Err fault) e ok = cc
-    four a (Ok b) (Ok c) (Ok d) (Err fault) ok = cc
-    four a (Ok b) (Ok c) (Ok d) (Ok e) ok =
-        ap (λ (r : Rest × Rest × Rest × Rest × Rest). r.0)
-        (value_same (five_rests a b c d e) rests ok)
-
-    bind_first : (r : Result Rest VErr)
-        (next : Rest → Result (Rest × Rest × Rest × Rest × Rest) VErr)
-        → ((a : Rest) → next a ≡ Ok rests → a ≡ rests.0)
-        → (r >>= next) ≡ Ok rests → r ≡ Ok rests.0
-    bind_first (Err fault) next is ok = cc
-    bind_first (Ok a) next is ok = ap (λ a. Ok a) (is a ok)
+    let a = bind_ok (begun_file part.Board (get files file)) _ rests ok in
+    let b = bind_ok (begun_file part.Challenge (get files first_challenge)) _ rests a.2 in
+    let c = bind_ok (begun_file part.Reply (get files first_reply)) _ rests b.2 in
+    let d = bind_ok (begun_file part.SecondChallenge (get files second_challenge)) _ rests c.2 in
+    let e = bind_ok (begun_file part.SecondReply (get files second_reply)) _ rests d.2 in
+    a.1 ∙ ap (λ (r : Rest × Rest × Rest × Rest × Rest). Ok r.0) (value_same _ rests e.2)

@@ -4,7 +4,7 @@ use Rattle.std.specs.Prelude.{option_map, ◌↔◌}
 use Rattle.vk_lines.specs.Lines.{Rest}
 use Rattle.vk_judge.specs.declared.answers.Part.TheVariants as part
 use Rattle.vk_judge.specs.declared.answers.Fault.{Fault}
-use Rattle.vk_judge.specs.declared.answers.Fault.TheVariants.{Malformed, Lanes, Wire, Row}
+use Rattle.vk_judge.specs.declared.answers.Fault.TheVariants.{Malformed}
 use Rattle.vk_judge.specs.declared.opened.Opened.{Opened}
 use Rattle.vk_judge.specs.declared.opened.Refusal.{Refusal}
 use Rattle.vk_judge.specs.declared.opened.Refusal.TheVariants as refusal
@@ -112,13 +112,7 @@ module _ {F H R : Type 0} (form : Form F H R) (is : IsForm form) (file challenge
   fails_of : (fault : Fault) → FailsBehind form file challenge reply fault
       → Fails form file challenge reply fault
   fails_of (Malformed part.Board line) fails = inr fails
-  fails_of (Malformed part.Challenge line) fails = fails
-  fails_of (Malformed part.Reply line) fails = fails
-  fails_of (Malformed part.SecondChallenge line) fails = fails
-  fails_of (Malformed part.SecondReply line) fails = fails
-  fails_of Lanes fails = fails
-  fails_of (Wire lane wire why) fails = fails
-  fails_of (Row lane row) fails = fails
+  fails_of fault fails = fails
 
   refusal_holds : (refused : Refusal R) → form.front_at (from_start file) ≡ Err refused
       → Holds (Err refused)
@@ -168,16 +162,7 @@ module _ {F H R : Type 0} (form : Form F H R) (is : IsForm form) (file challenge
       → judged ≡ Err (refusal.Fault fault)
   fault_given_by (Malformed part.Board line) (inl stops) = ap past ((is.stops file line).1 stops)
   fault_given_by (Malformed part.Board line) (inr fails) = failed (Malformed part.Board line) fails
-  fault_given_by (Malformed part.Challenge line) fails =
-      failed (Malformed part.Challenge line) fails
-  fault_given_by (Malformed part.Reply line) fails = failed (Malformed part.Reply line) fails
-  fault_given_by (Malformed part.SecondChallenge line) fails =
-      failed (Malformed part.SecondChallenge line) fails
-  fault_given_by (Malformed part.SecondReply line) fails =
-      failed (Malformed part.SecondReply line) fails
-  fault_given_by Lanes fails = failed Lanes fails
-  fault_given_by (Wire lane wire why) fails = failed (Wire lane wire why) fails
-  fault_given_by (Row lane row) fails = failed (Row lane row) fails
+  fault_given_by fault fails = failed fault fails
 
   given : (j : Result (Unit {0}) (Refusal R)) → Holds j → judged ≡ j
   given (Ok done) accepts =
@@ -261,8 +246,7 @@ accepted_give form is file challenge reply other second one two =
 found_accepted : (R : Type 0) (finding : Finding Fault)
     → BothAreAccepted (as_found {R = R} finding) → BothAreAccepted finding
 found_accepted R (Refused of_second fault) accepted = absurd accepted
-found_accepted R Same accepted = accepted
-found_accepted R Ready accepted = accepted
+found_accepted R finding accepted = accepted
 
 module _ {F H R : Type 0} (form : Form F H R) (is : IsForm form) (file challenge reply other second : List ℕ) where
   abbrev Both : Result (Opened H × Rest) (Refusal R) → Type 0

@@ -15,7 +15,7 @@ use Rattle.vk_judge.specs.Statement.{StatementValue}
 use Rattle.vk_judge.specs.Behind.{in_part, later_wires, case_of, lane_fault, lane_judged, lanes_judged, counted, ends_judged, behind_judged}
 use Rattle.vk_judge.specs.Parts.{case_at, reply_judged, attempt_at, rest_judged, behind_in_parts}
 
-abbrev pair : {X Y : Type 0} → X → Y → Result (X × Y) Fault
+abbrev pub pair : {X Y : Type 0} → X → Y → Result (X × Y) Fault
 pair x y = Ok (x, y)
 
 -- a lane's tests, bracketed otherwise
@@ -31,9 +31,8 @@ three_parts : (lines : Result (LaneLines × Rest) Fault) (shown : Result (List S
     (lines >>= λ x. shown >>= λ y. check (case x.0) y.0 >>= λ _. pair x.1 y.1)
     ((lines >>= λ x. pair (case x.0) x.1) >>= λ c.
     (shown >>= λ y. check c.0 y.0 >>= λ _. pair y.0 y.1) >>= λ s. pair c.1 s.1)
-three_parts (Err fault) shown case check = refl
-three_parts (Ok x) (Err fault) case check = refl
 three_parts (Ok x) (Ok y) case check = last_part (check (case x.0) y.0) y.0 x.1 y.1
+three_parts lines shown case check = refl
 
 -- a lane is read, and then what is shown of it is read and checked
 pub lane_parts : (s : StatementValue) (number : ℕ) (bit : Bool) (file reply : Rest)
@@ -69,10 +68,9 @@ attempt_parts lanes challenge reply rest =
         rest bits.0.bits replies.1)
         ≡ ((c >>= λ bits. r >>= λ replies. counted lanes bits.0 replies.0 >>= λ _.
         pair bits.0.bits replies.1) >>= λ a. rest a.0 a.1)
-    by_two (Err fault) r = refl
-    by_two (Ok bits) (Err fault) = refl
     by_two (Ok bits) (Ok replies) =
         counted_parts (counted lanes bits.0 replies.0) (bits.0.bits, replies.1) (λ a. rest a.0 a.1)
+    by_two c r = refl
 
 -- all tests behind a front
 pub behind_parts : (s : StatementValue) (file challenge reply : Rest)

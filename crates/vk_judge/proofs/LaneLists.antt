@@ -52,21 +52,21 @@ abbrev pub AreBits : (ℕ → Bool) → ℕ → List Bool → Type 0
 AreBits bit_of before bits = (index : ℕ) → index < length bits
     → bit_of (before + index + 1) ≡ slice_index_or bits index false
 
-first_bit : (bit_of : ℕ → Bool) (before : ℕ) (bit : Bool) (bits : List Bool)
+pub first_bit : (bit_of : ℕ → Bool) (before : ℕ) (bit : Bool) (bits : List Bool)
     → AreBits bit_of before (bit ∷ bits)
     → bit_of (before + 1) ≡ bit
 first_bit bit_of before bit bits are =
     let here : before + 1 ≡ before + zero + 1 = omega arith in
     ap bit_of here ∙ are zero (omega arith)
 
-later_bits : (bit_of : ℕ → Bool) (before after : ℕ) (bit : Bool) (bits : List Bool)
+pub later_bits : (bit_of : ℕ → Bool) (before after : ℕ) (bit : Bool) (bits : List Bool)
     → after ≡ before + 1
     → AreBits bit_of before (bit ∷ bits) → AreBits bit_of after bits
 later_bits bit_of before after bit bits next are = λ index within.
     let here : after + index + 1 ≡ before + suc index + 1 = omega (arith, next) in
     ap bit_of here ∙ are (suc index) (omega (arith, within))
 
-more : {X : Type 0} (before : List X) (x : X) → length (before ++ x ∷ []) ≡ length before + 1
+pub more : {X : Type 0} (before : List X) (x : X) → length (before ++ x ∷ []) ≡ length before + 1
 more before x = omega (arith, length-append before (x ∷ []))
 
 -- where what was read of a lane stands in the lists

@@ -10,7 +10,7 @@ use Rattle.vk_lines.specs.Lines.{Rest, rest_of}
 use Rattle.vk_judge.specs.declared.answers.Fault.{Fault}
 use Rattle.vk_judge.specs.declared.halt.Halt.{Halt}
 use Rattle.vk_judge.specs.declared.stage.FileAndReply.{FileAndReply}
-use Rattle.vk_judge.specs.declared.halt.Halt.TheVariants.{Refused, Failed, NoMemory}
+use Rattle.vk_judge.specs.declared.halt.Halt.TheVariants.{Refused}
 use Rattle.vk_judge.specs.Statement.{StatementValue}
 use Rattle.vk_judge.specs.Behind.{Judges, ends_judged, lane_judged, lanes_judged}
 
@@ -67,14 +67,12 @@ stop : (held : Option Files) (s : StatementValue) (bits : List Bool) (index : �
     (lane_judged s (index + 1) bit (rest_of pair.file files) (rest_of pair.reply files)))
     → IfSome held (λ files. Judges {T = Unit {0}} (λ _. pair_at next files) (Err halt)
     (whole files))
-stop None s bits index bit halt whole pair next within is so_far step = tt
 stop (Some files) s bits index bit (Refused fault) whole pair next within is so_far step =
     sym so_far
     ∙ next_lane s bits index bit (rest_of pair.file files) (rest_of pair.reply files) within is
     ∙ ap (λ r. r >>= λ rests. lanes_judged s (index + 1 + 1) (drop (index + 1) bits) rests.0
     rests.1) step
-stop (Some files) s bits index bit Failed whole pair next within is so_far step = tt
-stop (Some files) s bits index bit NoMemory whole pair next within is so_far step = tt
+stop held s bits index bit halt whole pair next within is so_far step = tt
 
 -- after a lane that was not accepted the ends are not read
 not_ended : {Y : Type 0} (lanes : Result (Rest × Rest) Fault) (next : Rest × Rest → Result Y Fault)
@@ -82,8 +80,7 @@ not_ended : {Y : Type 0} (lanes : Result (Rest × Rest) Fault) (next : Rest × R
     → Judges {T = Unit {0}} value (Err halt) lanes
     → Judges {T = Unit {0}} other (Err halt) (lanes >>= next)
 not_ended lanes next value other (Refused fault) judged = ap (λ l. l >>= next) judged
-not_ended lanes next value other Failed judged = tt
-not_ended lanes next value other NoMemory judged = tt
+not_ended lanes next value other halt judged = tt
 
 pub rest_stop : (held now : Option Files) (s : StatementValue) (bits : List Bool) (index : ℕ)
     (bit : Bool)

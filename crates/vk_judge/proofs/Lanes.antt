@@ -31,15 +31,13 @@ halves_never : (case : LaneCase) (bit : Bool) (halves : List ℕ) (kinds : List 
     (coms : List WireCom)
     (shown : List Shown) → halves_from case bit halves kinds coms shown ≢ Err NoMemory
 unfolding halves_from
-halves_never case bit halves [] coms shown e = cc
-halves_never case bit halves (kind ∷ kinds) [] shown e = cc
-halves_never case bit halves (kind ∷ kinds) (digests ∷ coms) [] e = cc
 halves_never case bit halves (kind ∷ kinds) (digests ∷ coms) (one ∷ shown) e =
     let read : Result ℕ WireFault = read_of kind (place_in case (length halves)) digests one bit in
     bind_never (at_wire (length halves) read)
     (λ half. halves_from case bit (halves ++ half ∷ []) kinds coms shown) NoMemory
     (wire_never (length halves) read)
     (λ half. halves_never case bit (halves ++ half ∷ []) kinds coms shown) e
+halves_never case bit halves kinds coms shown e = cc
 
 row_never : (halves : List ℕ) (row : Option ℕ) → judged halves row ≢ Err NoMemory
 row_never halves None e = cc

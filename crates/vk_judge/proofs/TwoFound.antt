@@ -13,7 +13,7 @@ use Rattle.vk_judge.specs.declared.halt.Halt.{Halt}
 use Rattle.vk_judge.specs.declared.stage.TwoLane.{TwoLane}
 use Rattle.vk_judge.specs.declared.stage.Finding.{Finding}
 use Rattle.vk_judge.specs.declared.stage.Base.{Base}
-use Rattle.vk_judge.specs.declared.halt.Halt.TheVariants.{Refused, Failed, NoMemory}
+use Rattle.vk_judge.specs.declared.halt.Halt.TheVariants.{Refused}
 use Rattle.vk_judge.specs.Behind.{Judges}
 use Rattle.vk_judge.specs.Two.{IsFound, IsTwoLane, GivesLane, Rests, Ahead, over, of_first, of_second, found_by, is_refused, accepted_of, two_lane_at, ends_found, ahead_from, ahead_on, ahead_after, rests_of}
 use Rattle.vk_judge.specs.Opened.{IsCourse, IsNextOfFile, ahead_unless, as_ahead, coming_of, with_head}
@@ -38,14 +38,12 @@ pub first_stop : {X Y T : Type 0} (held now : Option Files) (judged : Result X (
     → Judges {T = X} (λ x. (x, r)) (Err halt) (of_first expected))
     → IfSome now (λ files. Judges (λ x. (x, rest files)) judged (told files))
     → IfSome held (λ files. Judges (value files) (Err halt) (of_first (told files) >>= next files))
-first_stop None now judged halt rest told next value same found step = tt
 first_stop {X} (Some files) now judged (Refused finding) rest told next value same found step =
     ap (λ r. r >>= next files)
     (found (rest files) (told files)
     (subst (λ held. IfSome held
     (λ files. Judges (λ (x : X). (x, rest files)) judged (told files))) same step))
-first_stop (Some files) now judged Failed rest told next value same found step = tt
-first_stop (Some files) now judged NoMemory rest told next value same found step = tt
+first_stop held now judged halt rest told next value same found step = tt
 
 -- and that is handed on
 pub first_refused : {X Y T : Type 0} (held : Option Files) (judged : Result X (Halt Fault))
@@ -159,8 +157,7 @@ given_by : (result : Result TwoLane (Halt (Finding Fault)))
 given_by (Ok two) lane new base given is = ap (λ l. ahead_after l (ahead_on base given)) is
 given_by (Err (Refused finding)) lane new base given is =
     ap (λ l. ahead_after l (ahead_on base given)) is
-given_by (Err Failed) lane new base given is = tt
-given_by (Err NoMemory) lane new base given is = tt
+given_by result lane new base given is = tt
 
 -- a lane was read, or judging stopped in it
 pub lane_given : (held : Option Files) (base : Base) (given : ℕ) (first_bit second_bit : Bool)
@@ -194,8 +191,7 @@ ended_by : (halt : Halt (Finding Fault)) (finding : Finding Fault) (ahead after 
     → ahead ≡ over finding
     → IsFound halt finding → GivesLane ahead (Err halt) after
 ended_by (Refused f) finding ahead after is found = is ∙ ap over found
-ended_by Failed finding ahead after is found = tt
-ended_by NoMemory finding ahead after is found = tt
+ended_by halt finding ahead after is found = tt
 
 -- every lane was given
 pub ends_given : (held : Option Files) (base : Base) (given : ℕ) (halt : Halt (Finding Fault))

@@ -1,5 +1,5 @@
 -- What two replies come to behind a front.
-use Rattle.std.proofs.Common.{◌≡◌, ℕ, ◌+◌, ◌==◌, ◌&&◌, Bool, true, false, if◌then◌else◌, List, [], ◌∷◌, length, Result, Ok, Err, IfOk, refl, ap, sym, ◌∙◌, arith, eqb-true}
+use Rattle.std.proofs.Common.{◌≡◌, ℕ, ◌+◌, Bool, List, [], ◌∷◌, length, Result, Ok, Err, IfOk, refl, ap, sym, ◌∙◌, arith}
 use Rattle.vk_residue.specs.Steps.{◌>>=◌}
 use Rattle.vk_lines.specs.Lines.{Rest, end_at}
 use Rattle.vk_wire.specs.declared.wire.Shown.{Shown}
@@ -8,7 +8,6 @@ use Rattle.vk_reply.specs.declared.challenge.Challenge.{Challenge}
 use Rattle.vk_reply.specs.Reading.{challenge_at, reply_head_at}
 use Rattle.vk_judge.specs.declared.answers.Part.TheVariants as part
 use Rattle.vk_judge.specs.declared.answers.Fault.{Fault}
-use Rattle.vk_judge.specs.declared.answers.Fault.TheVariants.{Lanes}
 use Rattle.vk_judge.specs.declared.stage.Base.{Base}
 use Rattle.vk_judge.specs.declared.stage.TwoLane.{TwoLane}
 use Rattle.vk_judge.specs.declared.stage.Finding.{Finding}
@@ -17,7 +16,8 @@ use Rattle.vk_judge.specs.Behind.{in_part, lanes_judged, ends_judged, counted, b
 use Rattle.vk_judge.specs.Parts.{case_at, reply_judged, attempt_at, rest_judged, behind_in_parts}
 use Rattle.vk_judge.specs.Two.{Ahead, Rests, accepted_of, two_result, of_first, of_second, second_told, found_by, two_lane_at, ends_found, ahead_from, ahead_after, base_behind, ahead_by, lane_shown}
 use Rattle.vk_judge.specs.TwoLaw.{bits_read, FindsBy, FindsByJudging}
-use Rattle.vk_judge.proofs.Joined.{lane_parts, behind_parts}
+use Rattle.vk_judge.proofs.Files.{counted_shown}
+use Rattle.vk_judge.proofs.Joined.{behind_parts, lane_parts, pair}
 
 -- ---- the ends
 
@@ -31,10 +31,8 @@ ends_by : (accepted : Finding Fault) (file : Result (Unit {0} × Rest) Fault)
     → found_by accepted (file >>= λ _. first >>= λ _. Ok tt) second
     ≡ two_result accepted (file >>= λ _. first >>= λ _. Ok tt)
     (file >>= λ _. second >>= λ _. Ok tt)
-ends_by accepted (Err fault) first second = refl
-ends_by accepted (Ok over) (Err fault) second = refl
-ends_by accepted (Ok over) (Ok done) (Err fault) = refl
 ends_by accepted (Ok over) (Ok done) (Ok last) = refl
+ends_by accepted file first second = refl
 
 ends_are : (accepted : Finding Fault) (rests : Rests)
     → ends_found accepted rests
@@ -45,9 +43,6 @@ ends_are accepted rests = ends_by accepted (in_part part.Board (end_at rests.fil
     (in_part part.Reply (end_at rests.first)) (in_part part.Reply (end_at rests.second))
 
 -- ---- lanes
-
-abbrev pair : {X Y : Type 0} → X → Y → Result (X × Y) Fault
-pair x y = Ok (x, y)
 
 rest_after : (shown : Result (List Shown × Rest) Fault) (file : Rest)
     (lanes : Rest → Rest → Result (Rest × Rest) Fault)
@@ -79,54 +74,36 @@ rest_step s number bit bits file reply =
     ∙ rest_by (case_at s number file) (λ case. reply_judged s.plan case number bit reply)
     (lanes_judged s (number + 1) bits) ends_judged
 
--- one lane of both replies
-abbrev both : Result (LaneCase × Rest) Fault → (LaneCase → Result (List Shown × Rest) Fault)
-    → (LaneCase → Result (List Shown × Rest) Fault)
-    → Bool → Bool → (Rest → Rest → Result (Unit {0}) Fault)
-    → Result (TwoLane × Rests) (Finding Fault)
-both case first second first_bit second_bit rest =
-    of_first case >>= λ c. of_first (first c.0) >>= λ s. of_second (rest c.1 s.1) (second c.0) >>=
-    λ t. Ok (lane_shown first_bit second_bit c s t)
+-- one lane of both replies, where what is found after it is what the rest comes to for both
+module _ (accepted : Finding Fault) (first_bit second_bit : Bool) (rest other : Rest → Rest → Result (Unit {0}) Fault) (next : Rests → Ahead Fault)
+    (is : (rests : Rests) → (next rests).finding ≡ two_result accepted (rest rests.file rests.first) (other rests.file rests.second)) where
+  abbrev both : Result (LaneCase × Rest) Fault → (LaneCase → Result (List Shown × Rest) Fault)
+      → (LaneCase → Result (List Shown × Rest) Fault) → Result (TwoLane × Rests) (Finding Fault)
+  both case first second =
+      of_first case >>= λ c. of_first (first c.0) >>= λ s. of_second (rest c.1 s.1) (second c.0) >>=
+      λ t. Ok (lane_shown first_bit second_bit c s t)
 
-finding_after : (accepted : Finding Fault) (second : Result (List Shown × Rest) Fault)
-    (case : LaneCase × Rest)
-    (shown : List Shown × Rest) (first_bit second_bit : Bool)
-    (rest other : Rest → Rest → Result (Unit {0}) Fault) (next : Rests → Ahead Fault)
-    → ((rests : Rests) → (next rests).finding
-    ≡ two_result accepted (rest rests.file rests.first) (other rests.file rests.second))
-    → (ahead_after (both (Ok case) (λ _. Ok shown) (λ _. second) first_bit second_bit rest)
-    next).finding
-    ≡ two_result accepted (rest case.1 shown.1) (second >>= λ s. other case.1 s.1)
-finding_after accepted (Err fault) case shown first_bit second_bit rest other next is =
-    told_is accepted fault (rest case.1 shown.1)
-finding_after accepted (Ok last) case shown first_bit second_bit rest other next is =
-    is (record { file = case.1; first = shown.1; second = last.1 })
+  finding_after : (second : Result (List Shown × Rest) Fault) (case : LaneCase × Rest)
+      (shown : List Shown × Rest)
+      → (ahead_after (both (Ok case) (λ _. Ok shown) (λ _. second)) next).finding
+      ≡ two_result accepted (rest case.1 shown.1) (second >>= λ s. other case.1 s.1)
+  finding_after (Err fault) case shown = told_is accepted fault (rest case.1 shown.1)
+  finding_after (Ok last) case shown =
+      is (record { file = case.1; first = shown.1; second = last.1 })
 
-finding_first : (accepted : Finding Fault) (first second : Result (List Shown × Rest) Fault)
-    (case : LaneCase × Rest)
-    (first_bit second_bit : Bool)
-    (rest other : Rest → Rest → Result (Unit {0}) Fault) (next : Rests → Ahead Fault)
-    → ((rests : Rests) → (next rests).finding
-    ≡ two_result accepted (rest rests.file rests.first) (other rests.file rests.second))
-    → (ahead_after (both (Ok case) (λ _. first) (λ _. second) first_bit second_bit rest)
-    next).finding
-    ≡ two_result accepted (first >>= λ s. rest case.1 s.1) (second >>= λ s. other case.1 s.1)
-finding_first accepted (Err fault) second case first_bit second_bit rest other next is = refl
-finding_first accepted (Ok shown) second case first_bit second_bit rest other next is =
-    finding_after accepted second case shown first_bit second_bit rest other next is
+  finding_first : (first second : Result (List Shown × Rest) Fault) (case : LaneCase × Rest)
+      → (ahead_after (both (Ok case) (λ _. first) (λ _. second)) next).finding
+      ≡ two_result accepted (first >>= λ s. rest case.1 s.1) (second >>= λ s. other case.1 s.1)
+  finding_first (Err fault) second case = refl
+  finding_first (Ok shown) second case = finding_after second case shown
 
-finding_lane : (accepted : Finding Fault) (case : Result (LaneCase × Rest) Fault)
-    (first second : LaneCase → Result (List Shown × Rest) Fault) (first_bit second_bit : Bool)
-    (rest other : Rest → Rest → Result (Unit {0}) Fault) (next : Rests → Ahead Fault)
-    → ((rests : Rests) → (next rests).finding
-    ≡ two_result accepted (rest rests.file rests.first) (other rests.file rests.second))
-    → (ahead_after (both case first second first_bit second_bit rest) next).finding
-    ≡ two_result accepted (case >>= λ c. first c.0 >>= λ s. rest c.1 s.1)
-    (case >>= λ c. second c.0 >>= λ s. other c.1 s.1)
-finding_lane accepted (Err fault) first second first_bit second_bit rest other next is = refl
-finding_lane accepted (Ok case) first second first_bit second_bit rest other next is =
-    finding_first accepted (first case.0) (second case.0) case first_bit second_bit rest other next
-    is
+  finding_lane : (case : Result (LaneCase × Rest) Fault)
+      (first second : LaneCase → Result (List Shown × Rest) Fault)
+      → (ahead_after (both case first second) next).finding
+      ≡ two_result accepted (case >>= λ c. first c.0 >>= λ s. rest c.1 s.1)
+      (case >>= λ c. second c.0 >>= λ s. other c.1 s.1)
+  finding_lane (Err fault) first second = refl
+  finding_lane (Ok case) first second = finding_first (first case.0) (second case.0) case
 
 -- what is found from a lane on is what the rest comes to for both
 finding_from : (s : StatementValue) (accepted : Finding Fault) (number : ℕ)
@@ -140,12 +117,11 @@ finding_from s accepted number [] [] rests same = ends_are accepted rests
 finding_from s accepted number [] (other ∷ others) rests same = cc
 finding_from s accepted number (bit ∷ bits) [] rests same = cc
 finding_from s accepted number (bit ∷ bits) (other ∷ others) rests same =
-    finding_lane accepted (case_at s number rests.file)
-    (λ case. reply_judged s.plan case number bit rests.first)
-    (λ case. reply_judged s.plan case number other rests.second) bit other
-    (rest_judged s (number + 1) bits) (rest_judged s (number + 1) others)
-    (ahead_from s accepted (number + 1) bits others)
+    finding_lane accepted bit other (rest_judged s (number + 1) bits)
+    (rest_judged s (number + 1) others) (ahead_from s accepted (number + 1) bits others)
     (λ next. finding_from s accepted (number + 1) bits others next (omega (arith, same)))
+    (case_at s number rests.file) (λ case. reply_judged s.plan case number bit rests.first)
+    (λ case. reply_judged s.plan case number other rests.second)
     ∙ ap (λ r. two_result accepted r
     (case_at s number rests.file >>= λ c. reply_judged s.plan c.0 number other rests.second >>=
     λ t. rest_judged s (number + 1) others c.1 t.1))
@@ -154,10 +130,6 @@ finding_from s accepted number (bit ∷ bits) (other ∷ others) rests same =
     (sym (rest_step s number other others rests.file rests.second))
 
 -- ---- before the first lane
-
-first_of : (a b : Bool) → (a && b) ≡ true → a ≡ true
-first_of true b is = refl
-first_of false b is = is
 
 -- the bits of an attempt are those of the challenge, one for each lane
 record IsAttempt (lanes : ℕ) (bits : List Bool) (attempt : List Bool × Rest) : Type 0 where
@@ -170,17 +142,13 @@ attempt_by : (lanes : ℕ) (challenge : Result (Challenge × Rest) ℕ) (replies
     (IsAttempt lanes (bits_read challenge))
 attempt_by lanes (Err line) replies = tt
 attempt_by lanes (Ok c) (Err line) = tt
-attempt_by lanes (Ok c) (Ok r) = by_test (length c.0.bits == lanes && r.0 == lanes) refl
+attempt_by lanes (Ok c) (Ok r) = by_count (counted lanes c.0 r.0) refl
   where
-    by_test : (test : Bool) → (length c.0.bits == lanes && r.0 == lanes) ≡ test
-        → IfOk ((if test then Ok tt else Err Lanes) >>= λ (_ : Unit {0}). pair c.0.bits r.1)
-        (IsAttempt lanes c.0.bits)
-    by_test false is = tt
-    by_test true is = record {
-      same = refl;
-      count = eqb-true (length c.0.bits) lanes
-          (first_of (length c.0.bits == lanes) (r.0 == lanes) is);
-    }
+    by_count : (same : Result (Unit {0}) Fault) → counted lanes c.0 r.0 ≡ same
+        → IfOk (same >>= λ _. pair c.0.bits r.1) (IsAttempt lanes c.0.bits)
+    by_count (Err fault) is = tt
+    by_count (Ok done) is =
+        record { same = refl; count = (counted_shown lanes c.0 r.0 done is).0 }
 
 attempt_is : (lanes : ℕ) (challenge reply : Rest)
     → IfOk (attempt_at lanes challenge reply) (IsAttempt lanes (bits_read (challenge_at challenge)))

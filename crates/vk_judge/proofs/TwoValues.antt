@@ -1,8 +1,8 @@
 -- What two accepted replies give behind a front.
-use Rattle.std.proofs.Common.{◌≡◌, ℕ, zero, suc, ◌+◌, ◌-◌, ◌<◌, Bool, List, [], ◌∷◌, ◌++◌, length, Some, Result, Ok, Err, refl, ap, sym, ◌∙◌, subst, arith, length-append}
+use Rattle.std.proofs.Common.{◌≡◌, ℕ, zero, suc, ◌+◌, ◌-◌, ◌<◌, Bool, List, [], ◌∷◌, ◌++◌, length, Some, Result, Ok, refl, ap, sym, ◌∙◌, subst, arith}
 use Rattle.std.specs.Prelude.{slice_index_or, slice_get}
 use Rattle.vk_residue.specs.Steps.{◌>>=◌}
-use Rattle.vk_lines.specs.Lines.{Rest, end_at}
+use Rattle.vk_lines.specs.Lines.{Rest}
 use Rattle.vk_lines.specs.Forms.{many_onto}
 use Rattle.vk_plan.specs.Plans.{PlanValue}
 use Rattle.vk_wire.specs.declared.wire.Shown.{Shown}
@@ -20,16 +20,15 @@ use Rattle.vk_judge.specs.Statement.{StatementValue, IsStatement}
 use Rattle.vk_judge.specs.Behind.{in_part, later_wires, case_of, lane_fault, counted, behind_judged}
 use Rattle.vk_judge.specs.Begun.{from_start}
 use Rattle.vk_judge.specs.Parts.{case_at, reply_judged, attempt_at, rest_judged}
-use Rattle.vk_judge.specs.Two.{Ahead, Rests, BothAreAccepted, accepted_of, two_result, of_first, of_second, found_by, both_shown, second_shown, lane_shown, two_lane_at, ends_found, ahead_from, ahead_after, ahead_behind, with_lane, base_behind, second_begun, ahead_by, base_in}
+use Rattle.vk_judge.specs.Two.{Ahead, Rests, BothAreAccepted, accepted_of, two_result, of_first, of_second, both_shown, second_shown, lane_shown, two_lane_at, ahead_from, ahead_after, ahead_behind, with_lane, base_behind, second_begun, ahead_by, base_in}
 use Rattle.vk_judge.specs.TwoLaw.{bits_read}
 use Rattle.vk_judge.specs.Acceptance.{AcceptsBehind, bit_of, no_lines}
 use Rattle.vk_judge.specs.TwoValues.{base_with, GivesBehind, AcceptedBehindGive, OnlyAcceptedBehind}
 use Rattle.vk_judge.proofs.Steps.{read_found, value_same}
-use Rattle.vk_judge.proofs.Many.{many_first, many_last, many_keeps}
-use Rattle.vk_judge.proofs.LaneLists.{next_lines, next_shown, IsChecked, AreBits, bits_are}
-use Rattle.vk_judge.proofs.Files.{EndsRead, counted_found}
-use Rattle.vk_judge.proofs.Files as files
-use Rattle.vk_judge.proofs.Accepted.{accepted_read, accepted_ends, accepted_behind}
+use Rattle.vk_judge.proofs.Many.{many_first, many_keeps}
+use Rattle.vk_judge.proofs.LaneLists.{next_lines, next_shown, IsChecked, AreBits, bits_are, first_bit, later_bits, more}
+use Rattle.vk_judge.proofs.Files.{counted_found}
+use Rattle.vk_judge.proofs.Accepted.{accepted_read, accepted_behind}
 use Rattle.vk_judge.proofs.Passed.{Passed}
 use Rattle.vk_judge.proofs.TwoLaw.{finds_by_judging}
 
@@ -98,12 +97,11 @@ module _ (s : StatementValue) (first_of second_of : ℕ → Bool) (lines : List 
     first : many_onto earlier count (next_shown s first_of) rests.first ≡ Ok (shown, ends.first)
     second : many_onto last count (next_shown s second_of) rests.second ≡ Ok (others, ends.second)
 
-  -- after so many lanes these are given, and that is found
-  record AreGiven (before count : ℕ) (finding : Finding Fault) (ahead : Ahead Fault) : Type 0 where
-    one_each : length ahead.lanes ≡ count
-    each : (index : ℕ) (lane : TwoLane) → slice_get ahead.lanes index ≡ Some lane
+  -- after so many lanes these are given
+  record AreGiven (before count : ℕ) (given : List TwoLane) : Type 0 where
+    one_each : length given ≡ count
+    each : (index : ℕ) (lane : TwoLane) → slice_get given index ≡ Some lane
         → lane ≡ lane_with (before + index + 1) (before + index)
-    found : ahead.finding ≡ finding
 
   -- what the next lane gives, and what is read after it
   record NextRead (before : List LaneLines) (earlier last : List (List Shown)) (count : ℕ)
@@ -117,11 +115,6 @@ module _ (s : StatementValue) (first_of second_of : ℕ → Bool) (lines : List 
         ≡ Ok (lane_with (length before + 1) (length before), next)
     after : AreRead (before ++ line ∷ []) (earlier ++ show ∷ []) (last ++ other ∷ []) count next
         ends
-
-  more : {X Y : Type 0} (xs : List X) (ys : List Y) (x : X) (y : Y) → length xs ≡ length ys
-      → length (xs ++ x ∷ []) ≡ length (ys ++ y ∷ [])
-  more xs ys x y same = length-append xs (x ∷ []) ∙ ap (λ n. n + 1) same
-      ∙ sym (length-append ys (y ∷ []))
 
   next_read : (total : ℕ) (before : List LaneLines) (earlier last : List (List Shown)) (count : ℕ)
       (later : List Bool)
@@ -169,116 +162,72 @@ module _ (s : StatementValue) (first_of second_of : ℕ → Bool) (lines : List 
             (sym are.second_same) ∙ other.2 ∙ ap (λ s. Ok (s, other.1)) (sym other_at))
             second.1);
         after = record {
-          first_same = more earlier before show.0 line.0 are.first_same;
-          second_same = more last before other.0 line.0 are.second_same;
+          first_same = omega (arith, more earlier show.0, more before line.0, are.first_same);
+          second_same = omega (arith, more last other.0, more before line.0, are.second_same);
           file = line.3;
           first = show.3;
           second = other.3;
         };
       }
 
-  each_next : (before : ℕ) (ahead : Ahead Fault)
-      → ((index : ℕ) (lane : TwoLane) → slice_get ahead.lanes index ≡ Some lane
-      → lane ≡ lane_with (before + 1 + index + 1) (before + 1 + index))
-      → (index : ℕ) (lane : TwoLane) → slice_get (lane_with (before + 1) before ∷ ahead.lanes) index
-      ≡ Some lane
+  each_next : (before after : ℕ) (given : List TwoLane) → after ≡ before + 1
+      → ((index : ℕ) (lane : TwoLane) → slice_get given index ≡ Some lane
+      → lane ≡ lane_with (after + index + 1) (after + index))
+      → (index : ℕ) (lane : TwoLane)
+      → slice_get (lane_with (before + 1) before ∷ given) index ≡ Some lane
       → lane ≡ lane_with (before + index + 1) (before + index)
-  each_next before ahead later zero lane is =
+  each_next before after given next later zero lane is =
       let here : before ≡ before + zero = omega arith in
       let same : lane ≡ lane_with (before + 1) before = cc in
       same ∙ ap (λ i. lane_with (i + 1) i) here
-  each_next before ahead later (suc index) lane is =
-      let there : before + 1 + index ≡ before + suc index = omega arith in
+  each_next before after given next later (suc index) lane is =
+      let there : after + index ≡ before + suc index = omega (arith, next) in
       later index lane is ∙ ap (λ i. lane_with (i + 1) i) there
 
-  given_next : (before count : ℕ) (finding : Finding Fault) (ahead : Ahead Fault)
-      → AreGiven (before + 1) count finding ahead
-      → AreGiven before (suc count) finding (with_lane (lane_with (before + 1) before) ahead)
-  given_next before count finding ahead later = record {
-    one_each = ap (λ n. suc n) later.one_each;
-    each = each_next before ahead later.each;
-    found = later.found;
-  }
-
-  rests_same : (rests ends : Rests) → rests.file ≡ ends.file → rests.first ≡ ends.first
-      → rests.second ≡ ends.second
-      → rests ≡ ends
-  rests_same rests ends file first second =
-      let R : Rest → Rest → Rest → Rests = λ b f s. record { file = b; first = f; second = s } in
-      ap (λ b. R b rests.first rests.second) file
-      ∙ (ap (λ f. R ends.file f rests.second) first
-      ∙ ap (λ s. R ends.file ends.first s) second)
-
-  bit_is : (bit_of : ℕ → Bool) (before : ℕ) (bit : Bool) (bits : List Bool)
-      → AreBits bit_of before (bit ∷ bits)
-      → bit ≡ bit_of (before + 1)
-  bit_is bit_of before bit bits are =
-      let here : before + zero + 1 ≡ before + 1 = omega arith in
-      sym (are zero (omega arith)) ∙ ap bit_of here
-
-  bits_after : (bit_of : ℕ → Bool) (before : ℕ) (bit : Bool) (bits : List Bool)
-      → AreBits bit_of before (bit ∷ bits)
-      → AreBits bit_of (before + 1) bits
-  bits_after bit_of before bit bits are = λ index within.
-      let here : before + 1 + index + 1 ≡ before + suc index + 1 = omega arith in
-      ap bit_of here ∙ are (suc index) (omega (arith, within))
-
-  given_from : (finding : Finding Fault) (total : ℕ) (before : List LaneLines)
-      (earlier last : List (List Shown))
-      (bits second_bits : List Bool) (rests ends : Rests)
+  given_from : (accepted : Finding Fault) (total : ℕ) (before : List LaneLines)
+      (earlier last : List (List Shown)) (bits second_bits : List Bool) (rests ends : Rests)
       → AreChecked total → length before + length bits ≡ total → length second_bits ≡ length bits
       → AreBits first_of (length before) bits → AreBits second_of (length before) second_bits
-      → ends_found finding ends ≡ finding → AreRead before earlier last (length bits) rests ends
-      → AreGiven (length before) (length bits) finding
-      (ahead_from s finding (length before + 1) bits second_bits rests)
+      → AreRead before earlier last (length bits) rests ends
+      → AreGiven (length before) (length bits)
+      (ahead_from s accepted (length before + 1) bits second_bits rests).lanes
   unfolding ahead_from
-  given_from finding total before earlier last [] [] rests ends checked count same first second over
-      are =
-      let file = many_last (next_lines s) before rests.file lines ends.file are.file in
-      let one = many_last (next_shown s first_of) earlier rests.first shown ends.first are.first in
-      let other = many_last (next_shown s second_of) last rests.second others ends.second are.second
-      in
-      record {
-        one_each = refl;
-        each = λ index lane is. cc;
-        found = ap (ends_found finding) (rests_same rests ends file one other) ∙ over;
-      }
-  given_from finding total before earlier last [] (other ∷ second_bits) rests ends checked count
-      same first second over are = cc
-  given_from finding total before earlier last (bit ∷ bits) [] rests ends checked count same first
-      second over are = cc
-  given_from finding total before earlier last (bit ∷ bits) (other ∷ second_bits) rests ends checked
-      count same first second over are =
+  given_from accepted total before earlier last [] second_bits rests ends checked count same first
+      second are = record { one_each = refl; each = λ index lane is. cc }
+  given_from accepted total before earlier last (bit ∷ bits) [] rests ends checked count same first
+      second are = cc
+  given_from accepted total before earlier last (bit ∷ bits) (other ∷ second_bits) rests ends
+      checked count same first second are =
       let number : ℕ = length before + 1 in
-      let within : length before < total = omega (arith, count) in
-      let step = next_read total before earlier last (length bits) bits rests ends checked within
-      are in
-      let long : length (before ++ step.line ∷ []) ≡ length before + 1 =
-      length-append before (step.line ∷ []) in
-      let L : ℕ → Type 0 = λ n. AreGiven n (length bits) finding
-      (ahead_from s finding (n + 1) bits second_bits step.next) in
-      let B : ℕ → Type 0 = λ n. AreBits first_of n bits in
-      let C : ℕ → Type 0 = λ n. AreBits second_of n second_bits in
-      let later = given_from finding total (before ++ step.line ∷ []) (earlier ++ step.show ∷ [])
+      let step = next_read total before earlier last (length bits) bits rests ends checked
+      (omega (arith, count)) are in
+      let after : List LaneLines = before ++ step.line ∷ [] in
+      let long : length after ≡ number = more before step.line in
+      let later = given_from accepted total after (earlier ++ step.show ∷ [])
       (last ++ step.other ∷ []) bits second_bits step.next ends checked
       (omega (arith, count, long)) (omega (arith, same))
-      (subst B (sym long) (bits_after first_of (length before) bit bits first))
-      (subst C (sym long) (bits_after second_of (length before) other second_bits second))
-      over step.after in
-      let next : Rests → Ahead Fault =
-      λ rests. ahead_from s finding (number + 1) bits second_bits rests in
-      let is : ahead_from s finding number (bit ∷ bits) (other ∷ second_bits) rests
-      ≡ with_lane (lane_with number (length before)) (next step.next) =
+      (later_bits first_of (length before) (length after) bit bits long first)
+      (later_bits second_of (length before) (length after) other second_bits long second)
+      step.after in
+      let next : Rests → Ahead Fault = ahead_from s accepted (number + 1) bits second_bits in
+      let is : ahead_from s accepted number (bit ∷ bits) (other ∷ second_bits) rests
+      ≡ with_lane (lane_with number (length before))
+      (ahead_from s accepted (length after + 1) bits second_bits step.next) =
       ap (λ b. ahead_after (two_lane_at s number b other bits rests) next)
-      (bit_is first_of (length before) bit bits first)
+      (sym (first_bit first_of (length before) bit bits first))
       ∙ (ap (λ o. ahead_after (two_lane_at s number (first_of number) o bits rests) next)
-      (bit_is second_of (length before) other second_bits second)
-      ∙ ap (λ r. ahead_after r next) step.given) in
-      let G : Ahead Fault → Type 0 = λ a. AreGiven (length before) (suc (length bits)) finding a in
-      subst G (sym is) (given_next (length before) (length bits) finding (next step.next)
-      (subst L long later))
+      (sym (first_bit second_of (length before) other second_bits second))
+      ∙ (ap (λ r. ahead_after r next) step.given
+      ∙ ap (λ n. with_lane (lane_with number (length before))
+      (ahead_from s accepted (n + 1) bits second_bits step.next)) (sym long))) in
+      let G : Ahead Fault → Type 0 =
+      λ a. AreGiven (length before) (suc (length bits)) a.lanes in
+      subst G (sym is) (record {
+        one_each = ap (λ n. suc n) later.one_each;
+        each = each_next (length before) (length after) _ long later.each;
+      })
 
--- ---- before the first lane, and the ends
+-- ---- before the first lane
 
 attempt_found : (lanes : ℕ) (challenge reply : Rest) (bits : Challenge)
     (challenge_rest reply_rest : Rest)
@@ -298,15 +247,6 @@ attempt_found lanes challenge reply bits challenge_rest reply_rest challenge_rea
     (lanes, reply_rest) reply_read
     ∙ ap (λ q. q >>= λ (same : Unit {0}). Ok (bits.bits, reply_rest))
     (counted_found lanes bits lanes one_each refl))
-
-ends_are_over : (finding : Finding Fault) (ends : Rests) (over : Unit {0} × Rest)
-    → EndsRead ends.file ends.first
-    → end_at ends.second ≡ Ok over → ends_found finding ends ≡ finding
-unfolding ends_found
-ends_are_over finding ends over first second =
-    ap (λ j. found_by finding j (in_part part.Reply (end_at ends.second)))
-    (files.ends_found ends.file ends.first first)
-    ∙ ap (λ r. found_by finding (Ok tt) (in_part part.Reply r)) second
 
 -- ---- behind a front
 
@@ -375,16 +315,14 @@ module _ (s : StatementValue) (is : IsStatement s) (front file first_challenge f
   }
 
   lanes_given : AreGiven s (bit_of first.challenge) (bit_of second.challenge) first.lines
-      first.reply second.reply 0 (length first.challenge.bits) found
-      (ahead_from s found 1 first.challenge.bits second.challenge.bits begun)
+      first.reply second.reply 0 (length first.challenge.bits)
+      (ahead_from s found 1 first.challenge.bits second.challenge.bits begun).lanes
   lanes_given =
-      let ends = accepted_ends is rest at second in
       given_from s (bit_of first.challenge) (bit_of second.challenge) first.lines first.reply
       second.reply found (length first.challenge.bits) [] [] []
       first.challenge.bits second.challenge.bits begun ended
       checked (omega arith) (second.one_bit_each ∙ sym first.one_bit_each)
       (bits_are first.challenge) (bits_are second.challenge)
-      (ends_are_over found ended ends.reply_over (accepted_ends is rest at first) ends.reply_read)
       (record {
         first_same = refl;
         second_same = refl;
@@ -396,23 +334,45 @@ module _ (s : StatementValue) (is : IsStatement s) (front file first_challenge f
             first.one_bit_each ∙ second_read.read.reply_read;
       })
 
+  -- what is found is by judging each
+  finding_is : (ahead_behind s rest (from_start first_challenge) (from_start first_reply)
+      (from_start second_challenge) (from_start second_reply)).finding ≡ found
+  finding_is =
+      let c : Rest = from_start first_challenge in
+      let d : Rest = from_start second_challenge in
+      let judged : Rest → Rest → Result (Unit {0}) Fault = behind_judged s rest in
+      let all : Result (Challenge × Rest) ℕ → Result (Challenge × Rest) ℕ
+      → Result (Unit {0}) Fault → Result (Unit {0}) Fault → Finding Fault =
+      λ one other. two_result (accepted_of (bits_read one) (bits_read other)) in
+      finds_by_judging s rest c (from_start first_reply) d (from_start second_reply)
+      ∙ (ap (λ j. all (challenge_at c) (challenge_at d) j (judged d (from_start second_reply)))
+      ((accepted_behind s is front file first_challenge first_reply rest at).1 first)
+      ∙ (ap (all (challenge_at c) (challenge_at d) (Ok tt))
+      ((accepted_behind s is front file second_challenge second_reply rest at).1 second)
+      ∙ (ap (λ one. all one (challenge_at d) (Ok tt) (Ok tt)) first_read.begun.challenge_read
+      ∙ ap (λ other. all (Ok (first.challenge, first_read.begun.challenge_rest)) other (Ok tt)
+      (Ok tt)) second_read.begun.challenge_read)))
+
   behind_given : GivesBehind first second
       (ahead_behind s rest (from_start first_challenge) (from_start first_reply)
       (from_start second_challenge) (from_start second_reply))
   behind_given =
-      let G : Ahead Fault → Type 0 = λ a. GivesBehind first second a in
+      let A : List TwoLane → Type 0 =
+      λ given. AreGiven s (bit_of first.challenge) (bit_of second.challenge) first.lines first.reply
+      second.reply 0 (length first.challenge.bits) given in
+      let lanes = subst A (sym (ap (λ b. (ahead_by b).lanes) base_found)) lanes_given in
       let lane : ℕ → ℕ → TwoLane =
       lane_with s (bit_of first.challenge) (bit_of second.challenge) first.lines first.reply
       second.reply in
-      subst G (sym (ap ahead_by base_found)) (record {
-        one_each = lanes_given.one_each ∙ first.one_bit_each;
+      record {
+        one_each = lanes.one_each ∙ first.one_bit_each;
         each = λ index one is.
             let number : 0 + index + 1 ≡ index + 1 = omega arith in
             let at : 0 + index ≡ index + 1 - 1 = omega arith in
-            lanes_given.each index one is ∙ ap (λ n. lane n (0 + index)) number
+            lanes.each index one is ∙ ap (λ n. lane n (0 + index)) number
             ∙ ap (λ i. lane (index + 1) i) at;
-        finding = lanes_given.found;
-      })
+        finding = finding_is;
+      }
 
 pub accepted_behind_give : AcceptedBehindGive
 accepted_behind_give s is front file first_challenge first_reply second_challenge second_reply rest
@@ -428,8 +388,7 @@ accepted_behind_give s is front file first_challenge first_reply second_challeng
 both_passed : (accepted : Finding Fault) (first second : Result (Unit {0}) Fault)
     → BothAreAccepted (two_result accepted first second) → (first ≡ Ok tt) × (second ≡ Ok tt)
 both_passed accepted (Ok done) (Ok over) are = (refl, refl)
-both_passed accepted (Ok tt) (Err fault) are = absurd are
-both_passed accepted (Err fault) second are = absurd are
+both_passed accepted first second are = absurd are
 
 pub only_accepted_behind : OnlyAcceptedBehind
 only_accepted_behind s is front file first_challenge first_reply second_challenge second_reply rest

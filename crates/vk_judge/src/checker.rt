@@ -73,7 +73,6 @@ impl<H, R> Model for Checker<H, R> {
 impl<H: Drop, R: Copy> Checker<H, R> {
     /// Reads both challenges and the heads of both replies, of a file that was opened and is read
     /// up to its first lane. Errs where the shelf fails, and for want of memory.
-    #[tactic(auto, using(crate::specs::Wanting::memory_was_wanting))]
     pub fn begin<S: Shelf>(
         alloc: Global,
         shelf: &mut S,
@@ -120,7 +119,6 @@ impl<H: Drop, R: Copy> Checker<H, R> {
     /// Gives the next lane, where both replies are accepted so far, and none where every lane was
     /// given or one of the replies has its fault in the lane or before it. What they come to is
     /// known then.
-    #[tactic(auto, using(crate::specs::Wanting::memory_was_wanting))]
     pub fn next_lane<S: Shelf>(
         self,
         alloc: Global,

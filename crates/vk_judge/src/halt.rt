@@ -12,7 +12,7 @@ use vk_lines::ReadErr;
 use vk_residue::NoMemory;
 
 /// Why judging stopped before its end.
-#[derive(Clone, Copy, Debug, PartialEq, Eq)]
+#[derive(Clone, Copy)]
 pub enum Halt<V> {
     /// What was come to is known, and this says it.
     Refused(V),

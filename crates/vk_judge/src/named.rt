@@ -54,10 +54,12 @@ fn begun_file(part: Part, started: Result<Lines, StartErr>) -> Result<Lines, VEr
 }
 
 /// Begins to read the named file.
+#[tactic(auto, using(crate::specs::Wanting::memory_was_wanting))]
 fn begin<S: Shelf>(alloc: Global, shelf: &mut S, name: &str, part: Part) -> Result<Lines, VErr>
     ensures modelled { IfSome (S.held shelf.old) (λ files.
         Gives unread_file (λ lines. rest_of lines files) result
         (begun_file part (map.get files name.now))) }
+    ensures wanting { IsErrOf result VErr.NoMemory → MemoryWasWanting }
     ensures shelf { OnlyReads S.held S.Shelf.faults VErr.Failed result shelf.old shelf.new }
 {
     let started = Lines::start(alloc, shelf, name);
@@ -85,7 +87,6 @@ impl OneReply<'_> {
 
 impl TwoReplies<'_> {
     /// Begins to read the files. Errs as for one challenge.
-    #[tactic(auto, using(crate::specs::Wanting::memory_was_wanting))]
     pub fn begin<S: Shelf>(&self, alloc: Global, shelf: &mut S) -> Result<TwoAttempts, VErr>
         ensures modelled { IfSome (S.held shelf.old)
             (λ files. Gives unread_file (λ two. of_two five_rests two files) result

@@ -1,5 +1,5 @@
 // How two replies to a file are read on, behind its front.
-ghost use Rattle.std.specs.Prelude.{◌≡◌, ◌⊎◌, ◌≤◌, ◌<◌, ◌+◌, ℕ, Some, None, Result, Ok, IsSome, IfSome, IfOk, IfErr, OnOk};
+ghost use Rattle.std.specs.Prelude.{◌≡◌, ◌⊎◌, ◌≤◌, ◌<◌, ◌+◌, ℕ, Some, None, Result, Ok, IsSome, IfSome, IfOk, IfErr, IsErrOf, OnOk};
 ghost use Rattle.vk_io.specs.Faults.{Causes};
 ghost use Rattle.vk_io.specs.Files.{Files};
 ghost use Rattle.vk_lines.specs.Lines.{OnlyReads};
@@ -10,6 +10,7 @@ ghost use Rattle.vk_judge.specs.declared.stage.Stage.TheVariants.{Running};
 ghost use Rattle.vk_judge.specs.Behind.{Judges};
 ghost use Rattle.vk_judge.specs.Answers.{start_answer, step_answer};
 ghost use Rattle.vk_judge.specs.Opened.{CheckedGoesOn, GoesOn, IsChecked, IsCourse, IsLaneStep, as_ahead, as_found, checked_base, checked_given, coming_of, coming_with};
+ghost use Rattle.vk_judge.specs.Wanting.{MemoryWasWanting};
 ghost use Rattle.vk_judge.specs.Two.{Ahead, BothAreAccepted, GivesLane, IsBase, IsTwoLane, Refuses, Rests, ahead_by, ahead_on, base_in, rests_of};
 
 use crate::answers::Fault;
@@ -37,6 +38,7 @@ fn as_found<R: Copy>(finding: Finding<Fault>) -> Finding<Refusal<R>>
 }
 
 /// Before the first lane of a file with this head, where there is no fault before it.
+#[tactic(auto, using(crate::specs::Wanting::memory_was_wanting))]
 pub fn stage_on<H: Drop, R: Copy>(
     head: H,
     base: Result<Base, TwoHalt>,
@@ -53,6 +55,7 @@ pub fn stage_on<H: Drop, R: Copy>(
     ensures opened { IfOk result (λ stage. IfSome (checked_base stage)
         (λ known. (known.head ≡ head) × (base ≡ Ok known.base))) }
     ensures none_given { IfOk result (λ stage. checked_given stage ≡ 0) }
+    ensures wanting { IsErrOf result OutsideErr.NoMemory → MemoryWasWanting }
     ensures causes { (before : ℕ) (after : ℕ) → Causes Halt.Failed base before after
         → Causes OutsideErr.Failed result before after }
 {
@@ -71,6 +74,7 @@ pub fn stage_on<H: Drop, R: Copy>(
 }
 
 /// The next lane of the course, if there is one.
+#[tactic(auto, using(crate::specs::Wanting::memory_was_wanting))]
 pub fn next_on_course<S: Shelf, H: Drop, R: Copy>(
     alloc: Global,
     shelf: &mut S,
@@ -81,6 +85,7 @@ pub fn next_on_course<S: Shelf, H: Drop, R: Copy>(
         (λ next. CheckedGoesOn (Running course) next.1 (Running next.0) files)) }
     ensures right { IfOk result (λ next. IsCourse next.0) }
     ensures step { IfOk result (λ next. IsLaneStep (Running course) next.1 (Running next.0)) }
+    ensures wanting { IsErrOf result OutsideErr.NoMemory → MemoryWasWanting }
     ensures shelf { OnlyReads S.held S.Shelf.faults OutsideErr.Failed result shelf.old shelf.new }
 {
     let Course {

@@ -5,30 +5,28 @@ ghost use Rattle.vk_verifier.specs.Verdicts.{as_verdict, refused_verdict, verdic
 use vk_judge::{Fault, Finding, Part, Refusal};
 use vk_wire::WireFault;
 
-/// The first fault of a board, a challenge and a reply, or that there is none.
+/// The first fault of a board, a challenge and a reply, or that there is none. The lines, lanes,
+/// wires and rows are counted as in `Fault`.
 #[derive(Clone, Copy, Debug, PartialEq, Eq)]
 pub enum BoardVerdict {
     Accepted,
-    /// The file is not of its form. The line, counted from 1, is the first that isn't what its
-    /// place demands.
+    /// In this line the file stops being of its form.
     Malformed {
         part: Part,
         line: u64,
     },
-    /// The price may not stand beside the reserve, the width and the number of seals.
+    /// As in `BoardRefusal`.
     Price,
-    /// The board names a winner, and no seal has that seat.
     Winner,
     /// The challenge's bits, or the reply's lanes, aren't as many as the board's lanes.
     Lanes,
-    /// In the lane, counted from 1, the wire, counted from 0, is the first that reads nothing.
+    /// The wire of the lane reads nothing.
     Wire {
         lane: u32,
         wire: u32,
         fault: WireFault,
     },
-    /// In the lane, counted from 1, every wire reads its half, and the row, counted from 0, is the
-    /// first that these don't meet.
+    /// The halves that are read don't meet the row.
     Row {
         lane: u32,
         row: u32,

@@ -93,9 +93,7 @@ impl TwoChecker {
         Ok(TwoChecker { checker })
     }
 
-    /// Gives the next lane, where both replies are accepted so far, and none where every lane was
-    /// given or one of the replies has its fault in the lane or before it. What they come to is
-    /// known then.
+    /// Gives the next lane, or none, as `Checker::next_lane` does.
     pub fn next_lane<S: Shelf>(
         self,
         alloc: Global,

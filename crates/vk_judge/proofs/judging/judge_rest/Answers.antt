@@ -7,10 +7,8 @@ pub returns-in_err-judge_lane-clause-modelled : goal.returns-in_err-judge_lane-c
 unfolding rest_judged
 returns-in_err-judge_lane-clause-modelled g c =
     let left = c.args.left in
-    rest_stop (g.S.Shelf.held c.args.shelf.now) (g.S.Shelf.held c.loop-index.shelf)
-    left.statement.now left.bits.now c.loop-index.index _ c.in_err-judge_lane.field-0.0 _
-    (left_judged left.statement.now left.bits.now left.judged c.args.pair.now)
-    c.loop-index.pair c.judge_lane.new.pair
+    rest_stop _ _ _ left.bits.now c.loop-index.index _ _ _ _ c.loop-index.pair
+    c.judge_lane.new.pair
     (omega (arith, c.loop-index-test.true, c.requires.bits, c.lanes-lanes.ensures.value))
     (search rules) c.loop-index.invariant.held (search rules) c.loop-index.invariant.modelled
     c.in_err-judge_lane.ensures.modelled
@@ -21,10 +19,7 @@ loop-index-preserved g c =
     let within : c.loop-index.index < length left.bits.now =
     omega (arith, c.loop-index-test.true, c.requires.bits, c.lanes-lanes.ensures.value) in
     record {
-      modelled = lane_turn (g.S.Shelf.held c.args.shelf.now) (g.S.Shelf.held c.loop-index.shelf)
-          left.statement.now left.bits.now c.loop-index.index _ c.in_ok-judge_lane.field-0
-          (left_judged left.statement.now left.bits.now left.judged c.args.pair.now)
-          c.loop-index.pair c.judge_lane.new.pair within (search rules)
+      modelled = lane_turn _ _ _ _ _ _ _ _ _ _ within (search rules)
           c.loop-index.invariant.held c.loop-index.invariant.modelled
           c.in_ok-judge_lane.ensures.modelled;
       held = c.in_ok-judge_lane.ensures.shelf.held ∙ c.loop-index.invariant.held;
@@ -35,9 +30,8 @@ pub returns-clause-modelled : goal.returns-clause-modelled
 unfolding rest_judged
 returns-clause-modelled g c =
     let left = c.args.left in
-    rest_done (g.S.Shelf.held c.args.shelf.now) (g.S.Shelf.held c.loop-index.shelf)
-    left.statement.now left.bits.now c.loop-index.index c.read_ends-done.result _
-    (left_judged left.statement.now left.bits.now left.judged c.args.pair.now) c.loop-index.pair
+    rest_done _ _ _ left.bits.now c.loop-index.index _ _
+    (left_judged left.statement.now left.bits.now left.judged c.args.pair.now) _
     (omega (arith, c.loop-index-test.false, c.requires.bits, c.lanes-lanes.ensures.value))
     c.loop-index.invariant.held refl c.loop-index.invariant.modelled
     c.read_ends-done.ensures.modelled

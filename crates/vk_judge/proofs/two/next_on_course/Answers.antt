@@ -1,14 +1,12 @@
 use Rattle.std.proofs.Common.{rules, sym, ◌∙◌}
 use Rattle.vk_judge.specs.declared.stage.Stage.TheVariants.{Running}
 use Rattle.vk_judge.specs.Opened.{GoesOn}
-use Rattle.vk_judge.specs.Two.{rests_of}
 use Rattle.vk_judge.proofs.TwoFound.{next_given, went_on}
 use Rattle.vk_judge.proofs.two.next_on_course.Goals as goal
 
 pub returns-clause-modelled : goal.returns-clause-modelled
 returns-clause-modelled g c =
-    went_on (g.S.Shelf.held c.args.shelf.now) c.args.course c.next_step-step.result
-    (λ files. rests_of c.next_step-step.new.readers files)
+    went_on _ c.args.course _ _
     (λ files before. GoesOn before c.in_ok-next.next.1 (Running c.in_ok-next.next.0) files)
     (sym c.is_some.ensures ∙ c.if-is_some.false) c.in_ok-next.ensures.modelled
     c.next_step-step.ensures.modelled

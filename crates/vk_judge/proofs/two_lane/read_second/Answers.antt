@@ -1,7 +1,7 @@
 use Rattle.std.proofs.Common.{◌+◌, Bool, List, drop, IfSome, IsTrue, subst}
 use Rattle.vk_lines.specs.Lines.{rest_of}
 use Rattle.vk_judge.specs.Behind.{Judges}
-use Rattle.vk_judge.specs.Parts.{rest_judged, reply_judged}
+use Rattle.vk_judge.specs.Parts.{rest_judged}
 use Rattle.vk_judge.proofs.TwoFound.{second_found}
 use Rattle.vk_judge.proofs.two_lane.read_second.Goals as goal
 
@@ -13,15 +13,7 @@ returns-clause-modelled g c =
     → Judges (λ (done : Unit {0}). done) c.judge_on-first.result
     (rest_judged c.args.base.now.statement (c.args.lane + 1) (drop c.args.lane bits)
     (rest_of c.args.readers.now.pair.file files) (rest_of c.args.readers.now.pair.reply files))) in
-    second_found (g.S.Shelf.held c.args.shelf.now) (g.S.Shelf.held c.read_checked-judged.new.shelf)
-    c.read_checked-judged.result c.judge_on-first.result c.of_second-second.result
-    c.is_refused-asked.result
-    (λ files. rest_judged c.args.base.now.statement (c.args.lane + 1)
-    (drop c.args.lane c.args.base.now.first_bits) (rest_of c.args.readers.now.pair.file files)
-    (rest_of c.args.readers.now.pair.reply files))
-    (λ files. reply_judged c.args.base.now.statement.plan c.args.case.now c.args.lane c.args.bit
-    (rest_of c.args.readers.now.second files))
-    (λ files. rest_of c.read_checked-judged.new.reply files)
-    c.read_checked-judged.ensures.shelf.held c.is_refused-asked.ensures
+    second_found _ _ _ _ _ _ _ _ _ c.read_checked-judged.ensures.shelf.held
+    c.is_refused-asked.ensures
     c.of_second-second.ensures.found c.read_checked-judged.ensures.modelled
     (subst P c.as_slice.ensures c.judge_on-first.ensures.modelled)
