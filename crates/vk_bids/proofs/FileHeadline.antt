@@ -18,7 +18,7 @@ use Rattle.vk_judge.specs.Opened.{Coming, FileBase, as_found, coming_in, with_he
 use Rattle.vk_judge.specs.Two.{BothAreAccepted, accepted_of, ahead_behind, base_behind, base_in, same_bits}
 use Rattle.vk_judge.proofs.FileForms.{accepted_front, accepted_give, on_one, only_accepted_give}
 use Rattle.vk_bids.specs.declared.bids.LaneBids.{LaneBids}
-use Rattle.vk_bids.specs.declared.extraction.Extraction.TheVariants.{Refused, Same}
+use Rattle.vk_bids.specs.declared.extraction.Extraction.TheVariants.{Same}
 use Rattle.vk_bids.specs.Extractions.{IsFound, found_by, gathered_after, given_by}
 use Rattle.vk_bids.specs.FileExtraction.{FileExtraction, IsFoundBy, extraction_past, file_extraction_in, opened_by}
 use Rattle.vk_bids.specs.FileHeadline.{AcceptedOpen, ExtractsByFinding, IsOfFile, OnlyAcceptedOpenFile, SameAccepted, SameIsFoundOfFile, TwoAccepted}

@@ -173,7 +173,8 @@ pub unread : {Place X T Y : Type 0} (IsValue : X → Type 0) (text : X → List 
     → MissesNone IsThere result
 unread IsValue text table IsThere bytes result reads from (Ok x) refused told answers causes =
     absurd (let e = refused in cc)
-unread IsValue text table IsThere bytes result reads from (Err refusal) refused told answers causes =
+unread IsValue text table IsThere bytes result reads from (Err refusal) refused told answers
+    causes =
     no_text IsValue text table IsThere bytes result reads from refusal answers causes
     (told refusal refl)
 

@@ -13,7 +13,8 @@ returns-clause-seal_text c =
 pub returns-clause-secret_text : goal.returns-clause-secret_text
 returns-clause-secret_text c =
     let read : c.read_secret.result ≡ Ok c.in_ok-secret.secret = search rules in
-    (rw read at (c.read_secret.ensures.answers c.args.secret_text.now c.in_ok-shelf-2.ensures.rest)).1
+    (rw read at (c.read_secret.ensures.answers c.args.secret_text.now
+    c.in_ok-shelf-2.ensures.rest)).1
 
 pub returns-clause-right : goal.returns-clause-right
 returns-clause-right c =
