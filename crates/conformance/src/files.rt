@@ -1,22 +1,23 @@
 // Seals and secrets, most of them changed, and the line at which each stops being one.
 use std::alloc::Global;
-use vk_cases::{Tried, Unreplayed, word_at};
+use vk_cases::{Text, Tried, Unreplayed, text_in, word_at};
 use vk_io::Shelf;
-use vk_lines::{Lines, ReadErr, end_line, push_decimal};
+use vk_lines::{Lines, ReadErr};
 use vk_seal::{read_seal, read_secret};
 
 /// The case, and its fault line; 0 where it has none.
-pub fn fault_text<S: Shelf>(alloc: Global, shelf: &mut S, case: &[u8]) -> Tried<Vec<u8>> {
-    let name = String::from_utf8(Vec::from_slice(alloc, word_at(case, 0)?)?).map_err(
-        |_refused| Unreplayed::NoCase,
-    )?;
+pub fn put_fault<S: Shelf>(
+    alloc: Global,
+    shelf: &mut S,
+    text: &mut Text,
+    case: &[u8],
+) -> Tried<()> {
+    let name = text_in(word_at(case, 0)?)?;
     let is_secret = word_at(case, 2)? == b"secret".as_slice();
-    let line = fault_line(alloc, shelf, name.as_str(), is_secret)?;
-    let mut text = Vec::from_slice(alloc, case)?;
-    text.extend_from_slice(b" | ")?;
-    push_decimal(&mut text, line)?;
-    end_line(&mut text)?;
-    Ok(text)
+    let line = fault_line(alloc, shelf, name, is_secret)?;
+    text.put(case);
+    text.put_count(b" | ", line);
+    Ok(())
 }
 
 /// The line at which the reader stops; 0 where it reads to the end.

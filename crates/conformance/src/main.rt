@@ -4,12 +4,14 @@
 #![tactic(auto)]
 
 mod files;
+mod house;
 mod houses;
 mod runs;
 
+use crate::house::House;
 use std::alloc::Global;
 use std::process::ExitCode;
-use vk_cases::{Form, Tried, replay_forms};
+use vk_cases::{Form, Text, Tried, replay_forms};
 use vk_io::Shelf;
 
 /// What a file of cases has, one case a line.
@@ -36,11 +38,29 @@ impl Form for Cases {
     }
 
     fn text<S: Shelf>(&self, alloc: Global, shelf: &mut S, case: &[u8]) -> Tried<Vec<u8>> {
-        match self {
-            Cases::Files => files::fault_text(alloc, shelf, case),
-            Cases::Runs => runs::run_text(alloc, shelf, case),
-            Cases::Houses => houses::house_text(alloc, shelf, case),
-        }
+        let mut house = House::new(alloc);
+        let mut text = Text::new(alloc);
+        put_case(shelf, &mut house, &mut text, self, case)?;
+        let bytes = text.into_bytes()?;
+        Ok(bytes)
+    }
+}
+
+/// What comes of the case over a house that has nothing.
+fn put_case<S: Shelf>(
+    shelf: &mut S,
+    house: &mut House,
+    text: &mut Text,
+    form: &Cases,
+    case: &[u8],
+) -> Tried<()> {
+    if let Cases::Files = form {
+        return files::put_fault(house.alloc, shelf, text, case);
+    }
+    let (name, parts) = house.begin(shelf, case)?;
+    match form {
+        Cases::Houses => houses::put_house(house, text, name, parts),
+        _ => runs::put_run(house, text, name, parts),
     }
 }
 
