@@ -1,12 +1,8 @@
 // Honest auctions as files, judged and extracted from by the program.
 use crate::asked::{ALL, Asked};
-use crate::bench::{Bench, Sizes, push_same, push_values, push_without_openings, seat_at};
+use crate::bench::{Bench, Sizes, push_same, push_values, seat_at};
 use crate::honest::{Terms, write_auction};
-use crate::parts::cut;
-use crate::text::Text;
-use std::alloc::Global;
-use vk_cases::{Tried, number_at, numbers_in, read_cases, word_at};
-use vk_io::{Shelf, Sink};
+use vk_cases::{Text, Tried, number_at, numbers_in, word_at};
 use vk_vickrey::Sale;
 
 /// The bids of an auction, how it is held, and the sale that it is known to come to.
@@ -17,44 +13,18 @@ struct Auction<'a> {
     sale: Sale,
 }
 
-/// Makes each auction of the file `auctions`, one a line, and tells what its files come to.
-pub fn try_auctions<S: Shelf, W: Sink>(alloc: Global, shelf: &mut S, out: &mut W) -> Tried<()> {
-    let cases = read_cases(alloc, shelf, "auctions")?;
-    let mut text = Text::new(alloc);
-    let tried = tell_auctions(alloc, out, &mut text, cases.as_slice());
-    tried
-}
-
-fn tell_auctions<W: Sink>(alloc: Global, out: &mut W, text: &mut Text, cases: &[u8]) -> Tried<()> {
-    let mut rest = cases;
-    for _ in 0..cases.len() {
-        if rest.is_empty() {
-            return Ok(());
-        }
-        let (case, behind) = cut(rest, b'\n');
-        text.clear();
-        push_case(alloc, text, case)?;
-        text.put(out)?;
-        rest = behind;
-    }
-    Ok(())
-}
-
-/// What the files of a case come to, which is `VERSION WIDTH LANES RESERVE POSITION PRICE BID,BID`:
-/// the position, from 1, of the seal that wins, or 0 where nothing is sold.
-fn push_case(alloc: Global, text: &mut Text, case: &[u8]) -> Tried<()> {
-    if case.is_empty() {
-        return Ok(());
-    }
+/// How large the files of a case's auction are, and what the program says of them. The case has the
+/// position, from 1, of the seal that wins, or 0 where nothing is sold.
+pub fn push_auction(bench: &mut Bench, text: &mut Text, case: &[u8]) -> Tried<()> {
     let terms = terms_of(case)?;
     let sale = known_sale(case)?;
-    let bids = numbers_in(alloc, word_at(case, 6)?)?;
+    let bids = numbers_in(bench.alloc, word_at(case, 6)?)?;
     let auction = Auction {
         bids: bids.as_slice(),
         terms,
         sale,
     };
-    let pushed = push_auction(alloc, text, &auction);
+    let pushed = push_tried(bench, text, &auction);
     pushed
 }
 
@@ -81,13 +51,6 @@ fn known_sale(case: &[u8]) -> Tried<Sale> {
     })
 }
 
-/// How large the auction's files are, and what the program says of them.
-fn push_auction(alloc: Global, text: &mut Text, auction: &Auction<'_>) -> Tried<()> {
-    let mut bench = Bench::new(alloc);
-    let pushed = push_tried(&mut bench, text, auction);
-    pushed
-}
-
 /// Writes the auction's files, and tells how large they are and what the program says of them.
 fn push_tried(bench: &mut Bench, text: &mut Text, auction: &Auction<'_>) -> Tried<()> {
     let sizes = write_auction(bench.alloc, &mut bench.shelf, auction.bids, auction.terms)?;
@@ -95,21 +58,22 @@ fn push_tried(bench: &mut Bench, text: &mut Text, auction: &Auction<'_>) -> Trie
     bench.push_lengths(text, sizes);
     for asked in &ALL {
         bench.run_asked(text, b"verify board", *asked)?;
-        text.word(bench.said());
+        text.put(bench.said());
     }
     push_extracted(bench, text, auction, Asked::Ones)?;
     push_extracted(bench, text, auction, Asked::Last)?;
+    bench.run(text, b"report board")?;
     push_reported(bench, text, auction, sizes)
 }
 
 /// The counts of the auction.
 fn push_counts(text: &mut Text, auction: &Auction<'_>) {
-    text.word(b"auction");
-    text.count(b"bids", auction.bids.len() as u64);
-    text.count(b"width", u64::from(auction.terms.width));
-    text.count(b"lanes", u64::from(auction.terms.lanes));
+    text.put(b"auction");
+    text.put_number(b" bids ", auction.bids.len() as u64);
+    text.put_number(b" width ", u64::from(auction.terms.width));
+    text.put_number(b" lanes ", u64::from(auction.terms.lanes));
     if auction.terms.version == 2 {
-        text.count(b"reserve", auction.terms.reserve);
+        text.put_number(b" reserve ", auction.terms.reserve);
     }
 }
 
@@ -123,31 +87,16 @@ fn push_extracted(
     asked: Asked,
 ) -> Tried<()> {
     bench.run_asked(text, b"extract board zeros reply-zeros", asked)?;
-    let mut said = Text::new(bench.alloc);
-    let mut wanted = Text::new(bench.alloc);
-    let printed = bench.said();
-    let pushed = push_bare(text, &mut said, &mut wanted, auction, asked, printed);
-    pushed
-}
-
-/// The same of what it printed.
-fn push_bare(
-    text: &mut Text,
-    said: &mut Text,
-    wanted: &mut Text,
-    auction: &Auction<'_>,
-    asked: Asked,
-    printed: &[u8],
-) -> Tried<()> {
-    push_without_openings(said, printed);
-    push_expected(wanted, auction, asked);
-    let (said, wanted) = (said.bytes()?, wanted.bytes()?);
-    if said == wanted {
-        text.word(b"bids as given\n");
-        push_sale(text, auction);
-        text.word(b"all seats same\n");
-    } else {
-        text.word(said);
+    bench.wanted.clear();
+    push_expected(&mut bench.wanted, auction, asked);
+    bench.strip();
+    match bench.other_than_wanted()? {
+        None => {
+            text.put(b"bids as given\n");
+            push_sale(text, auction);
+            text.put(b"all seats same\n");
+        }
+        Some(said) => text.put(said),
     }
     Ok(())
 }
@@ -158,12 +107,12 @@ fn push_expected(text: &mut Text, auction: &Auction<'_>, asked: Asked) {
     let lanes = auction.terms.lanes;
     for lane in 1..=lanes {
         if asked.bit(lane, lanes) {
-            push_values(text, lane, b"bid", auction.bids);
+            push_values(text, lane, b" bid ", auction.bids);
         }
     }
     push_sale(text, auction);
     push_same(text, auction.bids);
-    text.word(b"end\n");
+    text.put(b"end\n");
 }
 
 /// The line of the sale that is known: the winner and the price, or that nothing is sold; and the
@@ -171,16 +120,15 @@ fn push_expected(text: &mut Text, auction: &Auction<'_>, asked: Asked) {
 fn push_sale(text: &mut Text, auction: &Auction<'_>) {
     match auction.sale {
         Sale::Sold { position, price } => {
-            text.word(b"winner ");
-            text.number(u64::from(seat_at(position)));
-            text.count(b"price", price);
+            text.put_number(b"winner ", u64::from(seat_at(position)));
+            text.put_number(b" price ", price);
         }
-        Sale::Unsold => text.word(b"unsold"),
+        Sale::Unsold => text.put(b"unsold"),
     }
     if auction.terms.version == 2 {
-        text.count(b"reserve", auction.terms.reserve);
+        text.put_number(b" reserve ", auction.terms.reserve);
     }
-    text.word(b"\n");
+    text.put(b"\n");
 }
 
 /// What `report` says of the board; or, where this is the report that is wanted, that it is as
@@ -191,42 +139,30 @@ fn push_reported(
     auction: &Auction<'_>,
     sizes: Sizes,
 ) -> Tried<()> {
-    bench.run(text, b"report board")?;
-    let mut wanted = Text::new(bench.alloc);
-    let pushed = push_judged(text, &mut wanted, auction, sizes, bench.said());
-    pushed
-}
-
-/// The same of what it printed.
-fn push_judged(
-    text: &mut Text,
-    wanted: &mut Text,
-    auction: &Auction<'_>,
-    sizes: Sizes,
-    printed: &[u8],
-) -> Tried<()> {
-    push_report(wanted, auction, sizes);
-    if printed == wanted.bytes()? {
-        text.word(b"as published\n");
+    bench.wanted.clear();
+    push_report(&mut bench.wanted, auction, sizes);
+    let printed = bench.said();
+    if printed == bench.wanted.bytes()? {
+        text.put(b"as published\n");
     } else {
-        text.word(printed);
+        text.put(printed);
     }
     Ok(())
 }
 
 /// What a report has to be.
 fn push_report(text: &mut Text, auction: &Auction<'_>, sizes: Sizes) {
-    text.word(b"auction 000102030405060708090a0b0c0d0e0f\n");
-    text.line(b"width", u64::from(auction.terms.width));
-    text.line(b"lanes", u64::from(auction.terms.lanes));
-    text.line(b"seals", auction.bids.len() as u64);
+    text.put(b"auction 000102030405060708090a0b0c0d0e0f\n");
+    text.put_count(b"width ", u64::from(auction.terms.width));
+    text.put_count(b"lanes ", u64::from(auction.terms.lanes));
+    text.put_count(b"seals ", auction.bids.len() as u64);
     push_published(text, auction);
     push_seats(text, auction.bids);
-    text.line(b"wires", u64::from(sizes.wires));
-    text.line(b"rows", u64::from(sizes.rows));
+    text.put_count(b"wires ", u64::from(sizes.wires));
+    text.put_count(b"rows ", u64::from(sizes.rows));
     let pairs = u64::from(sizes.wires).saturating_mul(u64::from(auction.terms.lanes));
-    text.line(b"commitments", pairs.saturating_mul(2));
-    text.word(b"end\n");
+    text.put_count(b"commitments ", pairs.saturating_mul(2));
+    text.put(b"end\n");
 }
 
 /// The line of each seat.
@@ -234,20 +170,20 @@ fn push_seats(text: &mut Text, bids: &[u64]) {
     let mut position = 0u32;
     for _bid in bids {
         position = position.saturating_add(1);
-        text.line(b"seat", u64::from(seat_at(position)));
+        text.put_count(b"seat ", u64::from(seat_at(position)));
     }
 }
 
 /// The lines of the reserve, which version 2 has, of the winner and of the price.
 fn push_published(text: &mut Text, auction: &Auction<'_>) {
     if auction.terms.version == 2 {
-        text.line(b"reserve", auction.terms.reserve);
+        text.put_count(b"reserve ", auction.terms.reserve);
     }
     match auction.sale {
         Sale::Sold { position, price } => {
-            text.line(b"winner", u64::from(seat_at(position)));
-            text.line(b"price", price);
+            text.put_count(b"winner ", u64::from(seat_at(position)));
+            text.put_count(b"price ", price);
         }
-        Sale::Unsold => text.word(b"unsold\nprice 0\n"),
+        Sale::Unsold => text.put(b"unsold\nprice 0\n"),
     }
 }

@@ -1,12 +1,11 @@
 // Runs of the program over files in memory, and what is told of them.
 use crate::asked::Asked;
-use crate::parts::{before_openings, cut};
-use crate::text::Text;
+use crate::parts::before_openings;
 use std::alloc::Global;
 use vk_app::run;
-use vk_cases::{Tried, behind, lines_in, words_of};
+use vk_cases::{Text, Tried, behind, cut, lines_in, words_of};
 use vk_effect::Said;
-use vk_io::{MemShelf, MemSink, PieceShelf, Shelf};
+use vk_io::{MemShelf, MemSink, PieceShelf};
 use vk_keeper::MemKeeper;
 
 /// How many wires and rows a lane has.
@@ -23,10 +22,14 @@ pub struct Sizes {
 pub struct Bench {
     pub alloc: Global,
     pub shelf: PieceShelf,
+    /// What is to be printed last.
+    pub wanted: Text,
     line: Text,
     out: MemSink,
     /// How many bytes had been printed before what was printed last.
     printed: usize,
+    /// What was printed last without its openings.
+    bare: Text,
 }
 
 impl Bench {
@@ -35,9 +38,11 @@ impl Bench {
         Bench {
             alloc,
             shelf: PieceShelf::over(MemShelf::new(alloc)),
+            wanted: Text::new(alloc),
             line: Text::new(alloc),
             out: MemSink::new(alloc),
             printed: 0,
+            bare: Text::new(alloc),
         }
     }
 
@@ -52,15 +57,17 @@ impl Bench {
     /// Runs these words. Tells them, and the status.
     pub fn run(&mut self, text: &mut Text, words: &[u8]) -> Tried<()> {
         self.line.clear();
-        self.line.word(words);
+        self.line.put(words);
         self.run_line(text)
     }
 
     fn run_line(&mut self, text: &mut Text) -> Tried<()> {
         self.printed = self.out.bytes().len();
         let line = self.line.bytes()?;
-        let status = status_of(self.alloc, &mut self.shelf, &mut self.out, line)?;
-        push_status(text, line, status);
+        let words = words_of(self.alloc, line)?;
+        let status = status_over(self.alloc, words.as_slice(), &mut self.shelf, &mut self.out);
+        text.put(line);
+        text.put_count(b" | ", u64::from(status));
         Ok(())
     }
 
@@ -76,76 +83,74 @@ impl Bench {
         behind(self.out.bytes(), self.printed)
     }
 
+    /// Takes the openings out of what was printed last.
+    pub fn strip(&mut self) {
+        self.bare.clear();
+        push_without_openings(&mut self.bare, behind(self.out.bytes(), self.printed));
+    }
+
+    /// What was left of it, where that isn't the text that is wanted.
+    pub fn other_than_wanted(&self) -> Tried<Option<&[u8]>> {
+        let bare = self.bare.bytes()?;
+        Ok(if bare == self.wanted.bytes()? {
+            None
+        } else {
+            Some(bare)
+        })
+    }
+
     /// The counts of the wires and rows in a lane, and of the lines of the files.
     pub fn push_lengths(&self, text: &mut Text, sizes: Sizes) {
         let files = self.shelf.inner();
         push_sizes(text, sizes);
-        text.count(b"board", lines_in(files, "board"));
-        text.count(b"reply", lines_in(files, Asked::Zeros.reply()));
-        text.word(b"\n");
+        text.put_number(b" board ", lines_in(files, "board"));
+        text.put_count(b" reply ", lines_in(files, Asked::Zeros.reply()));
     }
 }
 
 /// The counts of the wires and rows in a lane.
 pub fn push_sizes(text: &mut Text, sizes: Sizes) {
-    text.count(b"wires", u64::from(sizes.wires));
-    text.count(b"rows", u64::from(sizes.rows));
+    text.put_number(b" wires ", u64::from(sizes.wires));
+    text.put_number(b" rows ", u64::from(sizes.rows));
 }
 
 /// These words, and the names of what is asked and of the reply.
 fn push_asked(line: &mut Text, words: &[u8], asked: Asked) {
-    line.word(words);
-    line.word(b" ");
-    line.word(asked.name().as_bytes());
-    line.word(b" ");
-    line.word(asked.reply().as_bytes());
+    line.put(words);
+    line.put(b" ");
+    line.put(asked.name().as_bytes());
+    line.put(b" ");
+    line.put(asked.reply().as_bytes());
 }
 
 /// The status of a command over no auction.
-pub fn status_of<S: Shelf>(
-    alloc: Global,
-    shelf: &mut S,
-    out: &mut MemSink,
-    line: &[u8],
-) -> Tried<u8> {
-    let words = words_of(alloc, line)?;
+fn status_over(alloc: Global, words: &[String], shelf: &mut PieceShelf, out: &mut MemSink) -> u8 {
     let mut keeper = MemKeeper::new(alloc);
-    let status = run(alloc, words.as_slice(), shelf, &mut keeper, out);
-    Ok(status)
-}
-
-/// A command and its status.
-pub fn push_status(text: &mut Text, words: &[u8], status: u8) {
-    text.word(words);
-    text.word(b" | ");
-    text.number(u64::from(status));
-    text.word(b"\n");
+    run(alloc, words, shelf, &mut keeper, out)
 }
 
 /// The text of an extraction, each line as far as its openings.
-pub fn push_without_openings(text: &mut Text, said: &[u8]) {
+fn push_without_openings(text: &mut Text, said: &[u8]) {
     let mut rest = said;
     for _ in 0..said.len() {
         if rest.is_empty() {
             return;
         }
         let (line, behind) = cut(rest, b'\n');
-        text.word(before_openings(line));
-        text.word(b"\n");
+        text.put(before_openings(line));
+        text.put(b"\n");
         rest = behind;
     }
 }
 
-/// The line of each value in a lane, behind that word.
-pub fn push_values(text: &mut Text, lane: u16, word: &[u8], values: &[u64]) {
+/// The line of each value in a lane, behind that mark.
+pub fn push_values(text: &mut Text, lane: u16, mark: &[u8], values: &[u64]) {
     let mut position = 0u32;
     for value in values {
         position = position.saturating_add(1);
-        text.word(b"lane ");
-        text.number(u64::from(lane));
-        text.count(b"seat", u64::from(seat_at(position)));
-        text.count(word, *value);
-        text.word(b"\n");
+        text.put_number(b"lane ", u64::from(lane));
+        text.put_number(b" seat ", u64::from(seat_at(position)));
+        text.put_count(mark, *value);
     }
 }
 
@@ -154,9 +159,8 @@ pub fn push_same(text: &mut Text, values: &[u64]) {
     let mut position = 0u32;
     for _value in values {
         position = position.saturating_add(1);
-        text.word(b"seat ");
-        text.number(u64::from(seat_at(position)));
-        text.word(b" same\n");
+        text.put_number(b"seat ", u64::from(seat_at(position)));
+        text.put(b" same\n");
     }
 }
 

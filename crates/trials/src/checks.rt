@@ -3,15 +3,13 @@ ghost use Rattle.std.specs.Prelude.{◌≡◌, IfOk, false, true};
 ghost use Rattle.vk_judge.specs.Opened.{HasOpened, IsCheckedOver};
 
 use crate::bench::{Bench, Sizes, push_sizes};
-use crate::parts::{cut, name_of};
-use crate::text::Text;
 use std::alloc::Global;
 use vk_audit::same_challenge;
-use vk_cases::{Tried, Unreplayed, read_cases};
+use vk_cases::{Text, Tried, Unreplayed, cut, text_in};
 use vk_claim::{ClaimChecker, ClaimFinding, ClaimRefusal, ClaimVerdict, claim_verdict};
 use vk_claims::{ClaimCircuits, claim_judged, claim_refused};
 use vk_effect::Said;
-use vk_io::{OutsideErr, PieceShelf, Shelf, Sink};
+use vk_io::{OutsideErr, PieceShelf};
 use vk_judge::{Fault, Refusal, VErr};
 use vk_residue::NoMemory;
 use vk_words::{AttemptNames, ExtractNames};
@@ -19,36 +17,9 @@ use vk_words::{AttemptNames, ExtractNames};
 /// The most lanes that a claim file has.
 const MOST_LANES: u32 = 64;
 
-/// Tells of each case of `checked`, which is `WORDS|FILE CHALLENGE REPLY CHALLENGE REPLY`, what the
-/// checker gives and finds of these files, once the words have written theirs.
-pub fn try_checks<S: Shelf, W: Sink>(alloc: Global, shelf: &mut S, out: &mut W) -> Tried<()> {
-    let cases = read_cases(alloc, shelf, "checked")?;
-    let mut text = Text::new(alloc);
-    let mut bench = Bench::new(alloc);
-    let told = tell_checks(&mut bench, out, &mut text, cases.as_slice());
-    told
-}
-
-fn tell_checks<W: Sink>(
-    bench: &mut Bench,
-    out: &mut W,
-    text: &mut Text,
-    cases: &[u8],
-) -> Tried<()> {
-    let mut rest = cases;
-    for _ in 0..cases.len() {
-        if rest.is_empty() {
-            break;
-        }
-        let (case, behind) = cut(rest, b'\n');
-        push_case(bench, text, case)?;
-        rest = behind;
-    }
-    text.put(out)
-}
-
-/// What is told of a case.
-fn push_case(bench: &mut Bench, text: &mut Text, case: &[u8]) -> Tried<()> {
+/// Tells what the checker gives and finds of the files of a case, once its words have written
+/// theirs.
+pub fn push_case(bench: &mut Bench, text: &mut Text, case: &[u8]) -> Tried<()> {
     let (words, named) = cut(case, b'|');
     let names = names_in(named)?;
     bench.run(text, words)?;
@@ -60,7 +31,7 @@ fn names_in(named: &[u8]) -> Tried<ExtractNames<'_>> {
     let (file, attempts) = cut(named, b' ');
     let (first, behind) = attempt_in(attempts)?;
     let (second, _behind) = attempt_in(behind)?;
-    let board = name_of(file)?;
+    let board = text_in(file)?;
     Ok(ExtractNames {
         board,
         first,
@@ -72,26 +43,25 @@ fn names_in(named: &[u8]) -> Tried<ExtractNames<'_>> {
 fn attempt_in(named: &[u8]) -> Tried<(AttemptNames<'_>, &[u8])> {
     let (challenge, behind) = cut(named, b' ');
     let (reply, behind) = cut(behind, b' ');
-    let challenge = name_of(challenge)?;
-    let reply = name_of(reply)?;
+    let challenge = text_in(challenge)?;
+    let reply = text_in(reply)?;
     Ok((AttemptNames { challenge, reply }, behind))
 }
 
 /// Tells what the checker gives and finds of these files: of the first lane how large the circuit
 /// is that it is held to, then how many lanes there are, and what is said of the finding.
 pub fn push_checked(bench: &mut Bench, text: &mut Text, names: &ExtractNames<'_>) -> Tried<()> {
-    text.word(names.board.as_bytes());
+    text.put(names.board.as_bytes());
     push_attempt(text, names.first);
     push_attempt(text, names.second);
     let (given, finding) = checked(bench.alloc, &mut bench.shelf, text, names)?;
     if verdict_on_first(bench.alloc, &mut bench.shelf, names)? != first_told(finding) {
         return Err(Unreplayed::NoCase);
     }
-    text.count(b"lanes", u64::from(given));
-    text.word(b"\n");
+    text.put_count(b" lanes ", u64::from(given));
     let said = said_of(bench.alloc, names, finding)?;
     bench.say(&said)?;
-    text.word(bench.said());
+    text.put(bench.said());
     Ok(())
 }
 
@@ -121,10 +91,10 @@ fn first_told(finding: ClaimFinding) -> ClaimVerdict {
 
 /// The names of a challenge and of the reply to it.
 fn push_attempt(text: &mut Text, names: AttemptNames<'_>) {
-    text.word(b" ");
-    text.word(names.challenge.as_bytes());
-    text.word(b" ");
-    text.word(names.reply.as_bytes());
+    text.put(b" ");
+    text.put(names.challenge.as_bytes());
+    text.put(b" ");
+    text.put(names.reply.as_bytes());
 }
 
 /// How many lanes are given, and what is found then.
@@ -213,7 +183,7 @@ fn push_shape(text: &mut Text, checker: &ClaimChecker)
             rows: plan.rows(),
         },
     );
-    text.count(b"inputs", u64::from(checker.head().inputs));
+    text.put_number(b" inputs ", u64::from(checker.head().inputs));
 }
 
 /// What is said of the finding, as of one reply that is accepted where both are.

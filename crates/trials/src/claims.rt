@@ -4,15 +4,13 @@ ghost use Rattle.vk_plan.specs.Plans.{Holds};
 ghost use Rattle.vk_matching.specs.MatchingPlans.{IsMatchingClaim};
 
 use crate::asked::Asked;
-use crate::bench::{Bench, Sizes, push_same, push_values, push_without_openings};
+use crate::bench::{Bench, Sizes, push_same, push_values};
 use crate::checks::push_checked;
 use crate::honest::{ID, Sealing, Terms, plan_and_values, residues, write_files};
-use crate::proposals::{drawn_ranks, rank_words};
-use crate::text::Text;
 use std::alloc::Global;
-use vk_cases::{Tried, Unreplayed};
+use vk_cases::{Text, Tried, Unreplayed, number_at, numbers_in, word_at};
 use vk_claim::{ClaimHead, Kind, claim_head_text};
-use vk_io::{PieceShelf, Sink};
+use vk_io::PieceShelf;
 use vk_matching::{MatchingPlan, propose};
 use vk_plan::Plan;
 use vk_residue::{NoMemory, Residue};
@@ -29,49 +27,19 @@ struct Couples {
     lanes: u16,
 }
 
-/// The claims that are made: many small lanes, and the largest lane.
-const CLAIMS: [Couples; 2] = [
-    Couples {
-        size: 2,
-        width: 1,
-        lanes: 64,
-    },
-    Couples {
-        size: 16,
-        width: 16,
-        lanes: 1,
-    },
-];
-
-/// Makes each claim, and tells what its files come to.
-pub fn try_claims<W: Sink>(alloc: Global, out: &mut W) -> Tried<()> {
-    let mut text = Text::new(alloc);
-    let tried = tell_claims(alloc, out, &mut text);
-    tried
-}
-
-fn tell_claims<W: Sink>(alloc: Global, out: &mut W, text: &mut Text) -> Tried<()> {
-    for couples in &CLAIMS {
-        text.clear();
-        push_claim(alloc, text, *couples)?;
-        text.put(out)?;
-    }
-    Ok(())
-}
-
-/// How large the files of a claim are, and what the program says of them.
-fn push_claim(alloc: Global, text: &mut Text, couples: Couples) -> Tried<()> {
-    let mut words = rank_words(1);
-    let ranks = drawn_ranks(alloc, couples.size, couples.width, &mut words)?;
-    let pushed = push_ranked(alloc, text, couples, ranks.as_slice());
+/// How large the files of a case's claim are, and what the program says of them.
+pub fn push_claim(bench: &mut Bench, text: &mut Text, case: &[u8]) -> Tried<()> {
+    let couples = couples_of(case)?;
+    let ranks = numbers_in(bench.alloc, word_at(case, 3)?)?;
+    let pushed = push_tried(bench, text, couples, ranks.as_slice());
     pushed
 }
 
-/// The same of these ranks.
-fn push_ranked(alloc: Global, text: &mut Text, couples: Couples, ranks: &[u64]) -> Tried<()> {
-    let mut bench = Bench::new(alloc);
-    let pushed = push_tried(&mut bench, text, couples, ranks);
-    pushed
+fn couples_of(case: &[u8]) -> Tried<Couples> {
+    let size = number_at(case, 0, 16)? as u32;
+    let width = number_at(case, 1, 16)? as u32;
+    let lanes = number_at(case, 2, 64)? as u16;
+    Ok(Couples { size, width, lanes })
 }
 
 /// Writes the claim's files, and tells how large they are and what the program says of them.
@@ -80,9 +48,9 @@ fn push_tried(bench: &mut Bench, text: &mut Text, couples: Couples, ranks: &[u64
     push_counts(text, couples);
     bench.push_lengths(text, sizes);
     bench.run_asked(text, b"claim-verify board", Asked::Zeros)?;
-    text.word(bench.said());
+    text.put(bench.said());
     bench.run_asked(text, b"claim-verify board", Asked::Ones)?;
-    text.word(bench.said());
+    text.put(bench.said());
     push_checked(bench, text, &names())?;
     bench.run_asked(text, b"claim-extract board zeros reply-zeros", Asked::Ones)?;
     push_extracted(bench, text, couples, ranks)
@@ -99,37 +67,26 @@ fn names() -> ExtractNames<'static> {
 
 /// The counts of the claim.
 fn push_counts(text: &mut Text, couples: Couples) {
-    text.word(b"claim");
-    text.count(b"couples", u64::from(couples.size));
-    text.count(b"width", u64::from(couples.width));
-    text.count(b"lanes", u64::from(couples.lanes));
+    text.put(b"claim");
+    text.put_number(b" couples ", u64::from(couples.size));
+    text.put_number(b" width ", u64::from(couples.width));
+    text.put_number(b" lanes ", u64::from(couples.lanes));
 }
 
 /// What an extraction says without its openings; or, where this is as it has to be, that the ranks
 /// are as given.
-fn push_extracted(bench: &Bench, text: &mut Text, couples: Couples, ranks: &[u64]) -> Tried<()> {
-    let mut said = Text::new(bench.alloc);
-    let mut wanted = Text::new(bench.alloc);
-    let pushed = push_bare(text, &mut said, &mut wanted, couples, ranks, bench.said());
-    pushed
-}
-
-/// The same of what it printed.
-fn push_bare(
+fn push_extracted(
+    bench: &mut Bench,
     text: &mut Text,
-    said: &mut Text,
-    wanted: &mut Text,
     couples: Couples,
     ranks: &[u64],
-    printed: &[u8],
 ) -> Tried<()> {
-    push_without_openings(said, printed);
-    push_expected(wanted, couples, ranks);
-    let (said, wanted) = (said.bytes()?, wanted.bytes()?);
-    if said == wanted {
-        text.word(b"ranks as given\nall seats same\n");
-    } else {
-        text.word(said);
+    bench.wanted.clear();
+    push_expected(&mut bench.wanted, couples, ranks);
+    bench.strip();
+    match bench.other_than_wanted()? {
+        None => text.put(b"ranks as given\nall seats same\n"),
+        Some(said) => text.put(said),
     }
     Ok(())
 }
@@ -138,11 +95,11 @@ fn push_bare(
 /// each seat are the same.
 fn push_expected(text: &mut Text, couples: Couples, ranks: &[u64]) {
     for lane in 1..=couples.lanes {
-        push_values(text, lane, b"value", ranks);
+        push_values(text, lane, b" value ", ranks);
     }
-    text.word(b"kind matching\n");
+    text.put(b"kind matching\n");
     push_same(text, ranks);
-    text.word(b"end\n");
+    text.put(b"end\n");
 }
 
 /// Writes the claim that what is proposed of these ranks is stable, where they are of the width.

@@ -231,7 +231,8 @@ fn write_lane(
     written
 }
 
-/// The same with what is drawn for it.
+/// The same with what is drawn for it: what is published of it, and what is shown of it to each
+/// reply.
 fn write_taped(
     alloc: Global,
     shelf: &mut PieceShelf,
@@ -244,56 +245,9 @@ fn write_taped(
     requires holds { Holds plan.now values.now }
     requires one_each { length tape.now.wires ≡ length plan.now.kinds }
 {
-    write_published(alloc, shelf, plan, values, tape, lane)?;
-    write_shown(alloc, shelf, plan, values, tape, lane, lanes)
-}
-
-/// Writes what is published of a lane, from 1. The values hold for the plan.
-fn write_published(
-    alloc: Global,
-    shelf: &mut PieceShelf,
-    plan: &Plan,
-    values: &[Residue],
-    tape: &LaneTape,
-    lane: u16,
-) -> Tried<()>
-    requires holds { Holds plan.now values.now }
-    requires one_each { length tape.now.wires ≡ length plan.now.kinds }
-{
-    let text = published_text(alloc, plan, values, tape, lane)?;
-    let appended = append_lane(shelf, "board", text.as_slice());
-    appended
-}
-
-/// What is published of a lane, from 1. The values hold for the plan.
-fn published_text(
-    alloc: Global,
-    plan: &Plan,
-    values: &[Residue],
-    tape: &LaneTape,
-    lane: u16,
-) -> Result<Vec<u8>, NoMemory>
-    requires holds { Holds plan.now values.now }
-    requires one_each { length tape.now.wires ≡ length plan.now.kinds }
-{
     let lines = make_lane(alloc, plan, &ID, lane, values, tape)?;
-    let text = lane_text(alloc, u32::from(lane), &lines);
-    text
-}
-
-/// Writes what is shown of a lane, from 1, to each reply. The values hold for the plan.
-fn write_shown(
-    alloc: Global,
-    shelf: &mut PieceShelf,
-    plan: &Plan,
-    values: &[Residue],
-    tape: &LaneTape,
-    lane: u16,
-    lanes: u16,
-) -> Tried<()>
-    requires holds { Holds plan.now values.now }
-    requires one_each { length tape.now.wires ≡ length plan.now.kinds }
-{
+    let text = lane_text(alloc, u32::from(lane), &lines)?;
+    append_lane(shelf, "board", text.as_slice())?;
     let zeros = shown_text(alloc, plan, values, tape, lane, false)?;
     let ones = shown_text(alloc, plan, values, tape, lane, true)?;
     let appended = append_shown(shelf, lane, lanes, zeros.as_slice(), ones.as_slice());

@@ -1,11 +1,10 @@
 // `sample 1` and `claim-sample` over files that stay as they are: what is said of the replies is
 // what is read, and not what was written.
-use crate::bench::{push_status, status_of};
-use crate::parts::{cut, name_of};
-use crate::text::Text;
 use std::alloc::Global;
-use vk_cases::{Tried, Unreplayed, WatchedShelf, behind, read_cases};
-use vk_io::{MemShelf, MemSink, Shelf, Sink};
+use vk_app::run;
+use vk_cases::{Text, Tried, Unreplayed, WatchedShelf, behind, cut, read_cases, text_in, words_of};
+use vk_io::{MemShelf, MemSink, Shelf};
+use vk_keeper::MemKeeper;
 
 const LINE: &[u8] = b"sample 1";
 
@@ -39,31 +38,23 @@ const CALLS: u64 = 10;
 /// Tells what `sample 1` says over its own files, of which one is spoiled, and what it and
 /// `claim-sample` say over files that others made; among these a board, and claim files of both
 /// kinds, that have a right proof of another value in each lane.
-pub fn try_samples<S: Shelf, W: Sink>(alloc: Global, shelf: &mut S, out: &mut W) -> Tried<()> {
-    let cases = read_cases(alloc, shelf, "samples")?;
-    let mut text = Text::new(alloc);
-    let told = tell_samples(alloc, shelf, out, &mut text, cases.as_slice());
-    told
-}
-
-fn tell_samples<S: Shelf, W: Sink>(
-    alloc: Global,
-    shelf: &mut S,
-    out: &mut W,
-    text: &mut Text,
-    cases: &[u8],
-) -> Tried<()> {
+pub fn push_samples<S: Shelf>(alloc: Global, shelf: &mut S, text: &mut Text) -> Tried<()> {
     push_spoiled(alloc, text)?;
-    push_given(alloc, shelf, text, cases)?;
-    text.word(b"faults of sample: ");
+    push_given(alloc, shelf, text)?;
+    text.put(b"faults of sample: ");
     push_reads(alloc, shelf, text)?;
-    push_made(alloc, text)?;
-    text.put(out)
+    push_made(alloc, text)
 }
 
 /// Tells what is said over the files of each case of `samples`, which is `PUBLIC CHALLENGE REPLY
 /// CHALLENGE REPLY|WORDS|TOLD`.
-fn push_given<S: Shelf>(alloc: Global, shelf: &mut S, text: &mut Text, cases: &[u8]) -> Tried<()> {
+fn push_given<S: Shelf>(alloc: Global, shelf: &mut S, text: &mut Text) -> Tried<()> {
+    let cases = read_cases(alloc, shelf, "samples")?;
+    let pushed = push_cases(alloc, shelf, text, cases.as_slice());
+    pushed
+}
+
+fn push_cases<S: Shelf>(alloc: Global, shelf: &mut S, text: &mut Text, cases: &[u8]) -> Tried<()> {
     let mut rest = cases;
     for _ in 0..cases.len() {
         if rest.is_empty() {
@@ -116,7 +107,7 @@ fn put_files<S: Shelf>(
     let mut rest = sources;
     for name in names {
         let (source, behind) = cut(rest, b' ');
-        let bytes = read_cases(alloc, shelf, name_of(source)?)?;
+        let bytes = read_cases(alloc, shelf, text_in(source)?)?;
         files.put_file(name, bytes.as_slice())?;
         rest = behind;
     }
@@ -127,14 +118,11 @@ fn put_files<S: Shelf>(
 fn push_reads<S: Shelf>(alloc: Global, shelf: &mut S, text: &mut Text) -> Tried<()> {
     for call in 1..=CALLS {
         if !is_read_fault(alloc, shelf, call)? {
-            text.word(b"untold at call ");
-            text.number(call);
-            text.word(b"\n");
+            text.put_count(b"untold at call ", call);
             return Ok(());
         }
     }
-    text.word(b"every call told");
-    text.word(b"\n");
+    text.put_line(b"every call told");
     Ok(())
 }
 
@@ -175,8 +163,7 @@ fn push_front(text: &mut Text, board: &[u8]) {
     for number in 1u32..=9 {
         let (line, behind) = cut(rest, b'\n');
         if number == 1 || 7 < number {
-            text.word(line);
-            text.word(b"\n");
+            text.put_line(line);
         }
         rest = behind;
     }
@@ -190,6 +177,14 @@ fn write_sample(alloc: Global, files: &mut MemShelf) -> Tried<()> {
         return Err(Unreplayed::NoCase);
     }
     Ok(())
+}
+
+/// The status of a command over no auction.
+fn status_of<S: Shelf>(alloc: Global, shelf: &mut S, out: &mut MemSink, line: &[u8]) -> Tried<u8> {
+    let words = words_of(alloc, line)?;
+    let mut keeper = MemKeeper::new(alloc);
+    let status = run(alloc, words.as_slice(), shelf, &mut keeper, out);
+    Ok(status)
 }
 
 /// What is told of the files, and what these words say over them.
@@ -214,11 +209,11 @@ fn push_over(
     told: &[u8],
     line: &[u8],
 ) -> Tried<()> {
-    text.word(told);
-    text.word(b"\n");
+    text.put_line(told);
     let status = status_of(alloc, fixed, out, line)?;
-    push_status(text, line, status);
-    text.word(out.bytes());
+    text.put(line);
+    text.put_count(b" | ", u64::from(status));
+    text.put(out.bytes());
     Ok(())
 }
 

@@ -1,41 +1,34 @@
 // Matchings that are proposed of ranks, against what it is to be blocked by a pair.
-
-use crate::honest::ID;
-use crate::text::Text;
 use std::alloc::Global;
-use vk_cases::{Tried, Unreplayed};
+use vk_cases::{Text, Tried, Unreplayed};
 use vk_dice::{ChaChaWords, Words};
-use vk_io::Sink;
 use vk_matching::propose;
 use vk_residue::NoMemory;
 
 /// From this seed come the ranks that are drawn.
 const RANKS: [u8; 32] = [0x16; 32];
 
+/// The id for which they are drawn.
+const ID: [u8; 16] = [0, 1, 2, 3, 4, 5, 6, 7, 8, 9, 10, 11, 12, 13, 14, 15];
+
 /// How many tables of eight ranks below 3 there are.
 const TABLES: u64 = 6561;
 
 /// Tells how many matchings that are proposed a pair blocks: of all ranks of two men and two women
 /// that are below 3, and of some of three and of sixteen, among which there are many ties.
-pub fn try_proposals<W: Sink>(alloc: Global, out: &mut W) -> Tried<()> {
-    let mut text = Text::new(alloc);
-    let told = tell_proposals(alloc, out, &mut text);
-    told
-}
-
-fn tell_proposals<W: Sink>(alloc: Global, out: &mut W, text: &mut Text) -> Tried<()> {
-    text.word(b"proposed");
+pub fn push_proposals(alloc: Global, text: &mut Text) -> Tried<()> {
+    text.put(b"proposed");
     push_blocked(text, blocked_of_all(alloc)?, TABLES);
     push_blocked(text, blocked_of_drawn(alloc, 3, 1000)?, 1000);
     push_blocked(text, blocked_of_drawn(alloc, 16, 20)?, 20);
-    text.word(b"\n");
-    text.put(out)
+    text.put(b"\n");
+    Ok(())
 }
 
 /// How many are blocked, and of how many.
 fn push_blocked(text: &mut Text, blocked: u64, all: u64) {
-    text.count(b"blocked", blocked);
-    text.count(b"of", all);
+    text.put_number(b" blocked ", blocked);
+    text.put_number(b" of ", all);
 }
 
 /// How many matchings a pair blocks of all ranks of two men and two women that are below 3.
@@ -66,7 +59,7 @@ fn digits(alloc: Global, mut number: u64) -> Result<Vec<u64>, NoMemory> {
 
 /// The same of ranks below 8 that are drawn so many times.
 fn blocked_of_drawn(alloc: Global, size: u32, times: u64) -> Tried<u64> {
-    let mut words = rank_words(0);
+    let mut words = ChaChaWords::of(&RANKS, &ID, 0);
     let mut blocked = 0u64;
     for _time in 0..times {
         blocked = blocked.saturating_add(blocked_of_next(alloc, size, &mut words)?);
@@ -76,26 +69,16 @@ fn blocked_of_drawn(alloc: Global, size: u32, times: u64) -> Tried<u64> {
 
 /// The same of those that are drawn next.
 fn blocked_of_next(alloc: Global, size: u32, words: &mut ChaChaWords) -> Tried<u64> {
-    let ranks = drawn_ranks(alloc, size, 3, words)?;
+    let ranks = drawn_ranks(alloc, size, words)?;
     let blocked = blocked_count(alloc, size, ranks.as_slice());
     blocked
 }
 
-/// The words from which ranks are drawn, by a number.
-pub fn rank_words(number: u64) -> ChaChaWords {
-    ChaChaWords::of(&RANKS, &ID, number)
-}
-
-/// Ranks of a width for so many men and women.
-pub fn drawn_ranks(
-    alloc: Global,
-    size: u32,
-    width: u32,
-    words: &mut ChaChaWords,
-) -> Tried<Vec<u64>> {
+/// Ranks below 8 for so many men and women.
+fn drawn_ranks(alloc: Global, size: u32, words: &mut ChaChaWords) -> Tried<Vec<u64>> {
     let mut ranks = Vec::new(alloc);
     for _rank in 0..size.saturating_mul(size).saturating_mul(2) {
-        ranks.push(words.next() >> 64u32.saturating_sub(width).min(63))?;
+        ranks.push(words.next() >> 61)?;
     }
     Ok(ranks)
 }

@@ -1,9 +1,8 @@
 // What is said of seeds that are dry, which no sample has, and of verdicts on a second reply.
-use crate::text::Text;
 use std::alloc::Global;
 use vk_app::dry_seed;
 use vk_audit::say_verdict;
-use vk_cases::Tried;
+use vk_cases::{Text, Tried};
 use vk_effect::{Said, bidder_dry_line, house_dry_line};
 use vk_io::Sink;
 use vk_verifier::BoardVerdict;
@@ -43,28 +42,22 @@ const REFUSALS: [BoardVerdict; 6] = [
 
 /// Tells what is said of a bidder's seed that is dry for lane 3, and of a house's for lane 1 and
 /// wire 20; and with its status, of a bidder's for lane 64, and of each refusal.
-pub fn try_sayings<W: Sink>(alloc: Global, out: &mut W) -> Tried<()> {
+pub fn tell_sayings<W: Sink>(alloc: Global, out: &mut W, text: &mut Text) -> Tried<()> {
     out.put(bidder_dry_line(3).as_bytes())?;
     out.put(house_dry_line(1, 20).as_bytes())?;
-    tell(alloc, out, &dry_seed(64))?;
+    tell(out, text, &dry_seed(64))?;
     for verdict in &REFUSALS {
         let said = say_verdict(alloc, &NAMES, true, *verdict)?;
-        tell(alloc, out, &said)?;
+        tell(out, text, &said)?;
     }
     Ok(())
 }
 
 /// Tells the status, and what is said.
-fn tell<W: Sink>(alloc: Global, out: &mut W, said: &Said) -> Tried<()> {
-    put_status(alloc, out, said.status())?;
+fn tell<W: Sink>(out: &mut W, text: &mut Text, said: &Said) -> Tried<()> {
+    text.clear();
+    text.put_count(b"status ", u64::from(said.status()));
+    text.print(out)?;
     said.print(out)?;
     Ok(())
-}
-
-/// A line of the status.
-fn put_status<W: Sink>(alloc: Global, out: &mut W, status: u8) -> Tried<()> {
-    let mut text = Text::new(alloc);
-    text.line(b"status", u64::from(status));
-    let put = text.put(out);
-    put
 }
