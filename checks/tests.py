@@ -107,7 +107,9 @@ def rows():
     for program, what in (("vectors", parts), ("conformance", wholes)):
         yield (f"`{program}`, a program that replays what independent implementations worked out",
                f"{what}; {lines(program, 'stdout')} lines", "`rt run` in the crate")
-    for program, what, data_of in (("trials", "whole auctions and claims, matchings, and samples over files that stay as they are", ""),
+    for program, what, data_of in (("trials", "whole auctions and claims", ""),
+                                   ("sample_trials", "samples over files that stay as they are, matchings that are proposed, "
+                                    "and what is said of dry seeds", ""),
                                    ("fault_trials", "cut files, and a fault at each call", ""),
                                    ("far_trials", "the largest files, and damage at far places", ""),
                                    ("edge_trials", "the real files and an output, and calls to the system that go wrong",
