@@ -5,7 +5,7 @@ use Rattle.std.specs.FinMap.{empty}
 use Rattle.vk_io.specs.Files.{Files}
 use Rattle.vk_io.specs.Writing.{written}
 use Rattle.vk_keeper.specs.Ledgers.{Ledger}
-use Rattle.vk_words.specs.declared.claim.ClaimKind.TheVariants.{Matching}
+use Rattle.vk_words.specs.declared.claim.Kind.TheVariants.{Matching}
 use Rattle.vk_words.specs.Coins.{CoinWords}
 use Rattle.vk_words.specs.Commands.{ClaimSample, Coin, Seal, command_words}
 use Rattle.vk_words.specs.Orders.{SealWords}

@@ -2,7 +2,7 @@
 use Rattle.std.proofs.Common.{◌≡◌, ◌≢◌, ℕ, List, Some, Ok, Err, subst}
 use Rattle.std.specs.Prelude.{◌⊎◌}
 use Rattle.vk_io.specs.declared.errors.OutsideErr.{OutsideErr}
-use Rattle.vk_words.specs.declared.claim.ClaimKind.TheVariants.{Matching}
+use Rattle.vk_words.specs.declared.claim.Kind.TheVariants.{Matching}
 use Rattle.vk_words.specs.Commands.{ClaimSample, command_words}
 use Rattle.vk_effect.specs.Effects.{Outside}
 use Rattle.vk_app.specs.Commands.{CommandEndsFreely}

@@ -41,8 +41,8 @@ use Rattle.vk_sample.specs.Samples.{effect_by, sample_on}
 use Rattle.vk_job.specs.Proofs.{ProofValue}
 use Rattle.vk_report.specs.declared.sample.SampleCase.{SampleCase}
 use Rattle.vk_claims.specs.Claims.{claim_case, numbers_of, proof_by}
-use Rattle.vk_words.specs.declared.claim.ClaimKind.{ClaimKind}
-use Rattle.vk_words.specs.declared.claim.ClaimKind.TheVariants.{Uniform, Matching}
+use Rattle.vk_words.specs.declared.claim.Kind.{Kind}
+use Rattle.vk_words.specs.declared.claim.Kind.TheVariants.{Uniform, Matching}
 use Rattle.vk_words.specs.Coins.{CoinWords}
 use Rattle.vk_words.specs.Coins as coins
 use Rattle.vk_coins.specs.Deeds.{coin_on}
@@ -336,14 +336,14 @@ module _ (files : Files) (ledger : Ledger) where
   abbrev StaysSo : Effect → Type 0
   StaysSo effect = effect.ledger ≡ Some ledger
 
-  claim_still_by : (kind : ClaimKind) (number : ℕ) (case : SampleCase) (numbers : List ℕ)
+  claim_still_by : (kind : Kind) (number : ℕ) (case : SampleCase) (numbers : List ℕ)
       (made : Result ProofValue DrySeed)
       → IsSomeAnd (claimed.effect_by kind (Some files) (Some ledger) number case numbers made)
       StaysSo
   claim_still_by kind number case numbers (Ok proof) = refl
   claim_still_by kind number case numbers (Err dry) = refl
 
-  claim_still : (kind : ClaimKind) (number : ℕ) (numbers : List ℕ)
+  claim_still : (kind : Kind) (number : ℕ) (numbers : List ℕ)
       → IsSomeAnd (effect_with kind (Some files) (Some ledger) number numbers) StaysSo
   unfolding effect_with
   claim_still kind number numbers =

@@ -6,7 +6,7 @@ ghost use Rattle.vk_io.specs.Files.{Modelled};
 ghost use Rattle.vk_judge.specs.Wanting.{MemoryWasWanting};
 ghost use Rattle.vk_keeper.specs.Ledgers.{Ledger};
 ghost use Rattle.vk_words.specs.Commands.{ClaimSample, Coin, IsCommand, Seal, command_seen, command_words};
-ghost use Rattle.vk_words.specs.declared.claim.ClaimKind.TheVariants.{Matching};
+ghost use Rattle.vk_words.specs.declared.claim.Kind.TheVariants.{Matching};
 ghost use Rattle.vk_words.specs.Audits.{audit_seen};
 ghost use Rattle.vk_words.specs.Claims.{claim_order_seen};
 ghost use Rattle.vk_words.specs.Coins.{CoinWords};

@@ -15,15 +15,16 @@ use Rattle.vk_board.specs.Texts.{behind_text, seal_lines_text}
 use Rattle.vk_board.proofs.Boards.{BehindOf, behind_is_whole}
 use Rattle.vk_board.proofs.Forms.{seal_lines_are_part}
 use Rattle.vk_claim.specs.declared.head.ClaimHead.{ClaimHead}
-use Rattle.vk_claim.specs.declared.head.Kind.{Kind}
-use Rattle.vk_claim.specs.declared.head.Kind.TheVariants.{Uniform, Matching}
+use Rattle.vk_words.specs.declared.claim.Kind.{Kind}
+use Rattle.vk_words.specs.declared.claim.Kind.TheVariants.{Uniform, Matching}
+use Rattle.vk_words.specs.Claims.{kind_named, kind_word}
 use Rattle.vk_claim.specs.Values.{AreNumbers, IsClaimFile, IsClaimFront, IsClaimHead, claim_frame}
-use Rattle.vk_claim.specs.Texts.{claim_front_text, claim_head_text, claim_text, kind_word, numbers_text}
-use Rattle.vk_claim.specs.Reading.{claim_file_at, claim_file_with, claim_front_at, claim_front_with, claim_head_at, head_with, kind_line, kind_of, n_line, numbers_at}
+use Rattle.vk_claim.specs.Texts.{claim_front_text, claim_head_text, claim_text, numbers_text}
+use Rattle.vk_claim.specs.Reading.{claim_file_at, claim_file_with, claim_front_at, claim_front_with, claim_head_at, head_with, kind_line, n_line, numbers_at}
 
 -- ---- lines
 
-kind_found : (kind : Kind) → kind_of (kind_word kind) ≡ Some kind
+kind_found : (kind : Kind) → kind_named (kind_word kind) ≡ Some kind
 kind_found Uniform = refl
 kind_found Matching = refl
 
@@ -41,7 +42,7 @@ kind_tested false true Uniform some = cc
 kind_tested false true Matching some = refl
 kind_tested false false kind some = cc
 
-kind_shown : (word : List ℕ) (kind : Kind) → kind_of word ≡ Some kind → word ≡ kind_word kind
+kind_shown : (word : List ℕ) (kind : Kind) → kind_named word ≡ Some kind → word ≡ kind_word kind
 kind_shown word Uniform some =
     (bytes_eq-Decides word (codes "uniform")).0
     (kind_tested (bytes_eq word (codes "uniform")) (bytes_eq word (codes "matching")) Uniform some)
@@ -57,7 +58,7 @@ kind_short : (kind : Kind) → length (kind_word kind) ≤ 8
 kind_short Uniform = omega arith
 kind_short Matching = omega arith
 
-kind_token : IsToken 8 (λ kind. Unit {0}) kind_word kind_of
+kind_token : IsToken 8 (λ kind. Unit {0}) kind_word kind_named
 kind_token = record {
   found = λ kind is. kind_found kind;
   shown = λ word kind some. (tt, kind_shown word kind some);

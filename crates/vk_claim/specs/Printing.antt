@@ -6,8 +6,8 @@ use Rattle.vk_bids.specs.declared.bids.LaneBids.{LaneBids}
 use Rattle.vk_bids.specs.declared.bids.OpenedBid.{OpenedBid}
 use Rattle.vk_bids.specs.Texts.{agreements_text, opened_line}
 use Rattle.vk_claim.specs.Extraction.{OpenedClaim}
-use Rattle.vk_claim.specs.declared.head.Kind.{Kind}
-use Rattle.vk_claim.specs.Texts.{kind_word}
+use Rattle.vk_words.specs.declared.claim.Kind.{Kind}
+use Rattle.vk_words.specs.Claims.{kind_word}
 
 -- a value of the lane of that number
 abbrev pub value_line : ℕ → OpenedBid → List ℕ

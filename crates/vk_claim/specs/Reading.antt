@@ -1,7 +1,6 @@
 -- How a claim file is read, line by line. The laws say that this is exactly its text, and stops at
 -- the fault line.
-use Rattle.std.specs.Prelude.{ℕ, ◌^◌, ◌-◌, if◌then◌else◌, List, codes, Option, Some, None, Result, Ok}
-use Rattle.std.specs.Str.{bytes_eq}
+use Rattle.std.specs.Prelude.{ℕ, ◌^◌, ◌-◌, List, codes, Option, Result, Ok}
 use Rattle.vk_residue.specs.Steps.{◌>>=◌}
 use Rattle.vk_lines.specs.Lines.{Rest, line_by}
 use Rattle.vk_lines.specs.Forms.{many_at}
@@ -11,21 +10,15 @@ use Rattle.vk_board.specs.declared.board.LaneLines.{LaneLines}
 use Rattle.vk_board.specs.Values.{Shape}
 use Rattle.vk_board.specs.Reading.{behind_at, seal_lines_at}
 use Rattle.vk_claim.specs.declared.head.ClaimHead.{ClaimHead}
-use Rattle.vk_claim.specs.declared.head.Kind.{Kind}
-use Rattle.vk_claim.specs.declared.head.Kind.TheVariants.{Uniform, Matching}
+use Rattle.vk_words.specs.declared.claim.Kind.{Kind}
+use Rattle.vk_words.specs.Claims.{kind_named}
 use Rattle.vk_claim.specs.declared.front.ClaimFront.{ClaimFront}
 use Rattle.vk_claim.specs.Values.{ClaimFile, claim_frame}
 
 -- ---- lines
 
--- the kind of that word
-abbrev pub kind_of : List ℕ → Option Kind
-kind_of word =
-    if bytes_eq word (codes "uniform") then Some Uniform else if bytes_eq word (codes "matching")
-    then Some Matching else None
-
 abbrev pub kind_line : List ℕ → Option Kind
-kind_line text = one_field (codes "kind") kind_of text
+kind_line text = one_field (codes "kind") kind_named text
 
 -- a number of the public part
 abbrev pub n_line : List ℕ → Option ℕ

@@ -5,15 +5,9 @@ use Rattle.vk_lines.specs.Forms.{line, spaced}
 use Rattle.vk_lines.specs.Tokens.{hex_text}
 use Rattle.vk_board.specs.Texts.{behind_text, seal_lines_text}
 use Rattle.vk_claim.specs.declared.head.ClaimHead.{ClaimHead}
-use Rattle.vk_claim.specs.declared.head.Kind.{Kind}
-use Rattle.vk_claim.specs.declared.head.Kind.TheVariants.{Uniform, Matching}
+use Rattle.vk_words.specs.Claims.{kind_word}
 use Rattle.vk_claim.specs.declared.front.ClaimFront.{ClaimFront}
 use Rattle.vk_claim.specs.Values.{ClaimFile}
-
--- the word of a kind
-abbrev pub kind_word : Kind → List ℕ
-kind_word Uniform = codes "uniform"
-kind_word Matching = codes "matching"
 
 -- how many numbers there are, and then each
 unfoldable pub numbers_text : List ℕ → List ℕ

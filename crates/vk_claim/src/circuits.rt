@@ -1,6 +1,6 @@
 ghost use Rattle.std.specs.Prelude.{◌≡◌, ℕ, List, Option, take, IfOk, IfSome};
 ghost use Rattle.vk_plan.specs.Plans.{PlanValue, IsPlan, Holds};
-ghost use Rattle.vk_claim.specs.declared.head.Kind.{Kind};
+ghost use Rattle.vk_words.specs.declared.claim.Kind.{Kind};
 ghost use Rattle.vk_claim.specs.Values.{plan_for};
 
 use crate::head::ClaimHead;

@@ -4,26 +4,19 @@ ghost use Rattle.std.specs.List.{flat_map};
 ghost use Rattle.vk_lines.specs.Forms.{line, spaced};
 ghost use Rattle.vk_lines.specs.Lines.{Reads, line_by};
 ghost use Rattle.vk_claim.specs.Values.{AreNumbers, IsClaimHead};
-ghost use Rattle.vk_claim.specs.Texts.{claim_head_text, kind_word, numbers_text};
-ghost use Rattle.vk_claim.specs.Reading.{claim_head_at, kind_line, kind_of, numbers_at};
+ghost use Rattle.vk_claim.specs.Texts.{claim_head_text, numbers_text};
+ghost use Rattle.vk_claim.specs.Reading.{claim_head_at, kind_line, numbers_at};
+ghost use Rattle.vk_words.specs.Claims.{kind_word};
 
 use std::alloc::Global;
 use vk_io::Shelf;
 use vk_lines::{
     LineKind, Lines, ReadErr, behind_word, one_field, push_hex_line, push_line, push_number_line,
-    read_many, read_number, read_word,
+    read_many, read_number,
 };
 use vk_residue::NoMemory;
 use vk_seq::Seq;
-
-/// What is claimed of the sealed values: which circuits a public part may have.
-#[derive(Clone, Copy, Debug, PartialEq, Eq)]
-pub enum Kind {
-    /// Several equal units are sold at one price.
-    Uniform,
-    /// No man and woman who aren't matched rank each other better than their own.
-    Matching,
-}
+use vk_words::{Kind, kind_named};
 
 /// What a claim file says before its first seal: the auction, and the public part, which is the
 /// kind, the number of inputs and the numbers.
@@ -85,19 +78,6 @@ fn kind_of(text: &[u8]) -> Option<Kind>
     let word = one_field(behind_word(text, b"kind")?)?;
     let kind = kind_named(word)?;
     Some(kind)
-}
-
-/// The kind that a word names.
-fn kind_named(word: &[u8]) -> Option<Kind>
-    ensures { result ≡ kind_of word.now }
-{
-    if read_word(word, b"uniform").is_some() {
-        Some(Kind::Uniform)
-    } else if read_word(word, b"matching").is_some() {
-        Some(Kind::Matching)
-    } else {
-        None
-    }
 }
 
 /// The line of a number.

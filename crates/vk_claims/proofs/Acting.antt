@@ -10,8 +10,8 @@ use Rattle.vk_keeper.specs.Ledgers.{Ledger}
 use Rattle.vk_job.specs.Proofs.{ProofValue}
 use Rattle.vk_report.specs.declared.sample.SampleCase.{SampleCase}
 use Rattle.vk_report.specs.Samples.{IsCaseOf}
-use Rattle.vk_words.specs.declared.claim.ClaimKind.{ClaimKind}
-use Rattle.vk_words.specs.declared.claim.ClaimKind.TheVariants.{Uniform, Matching}
+use Rattle.vk_words.specs.declared.claim.Kind.{Kind}
+use Rattle.vk_words.specs.declared.claim.Kind.TheVariants.{Uniform, Matching}
 use Rattle.vk_effect.specs.Effects.{SaidValue, Stores, stores}
 use Rattle.vk_effect.specs.Ends.{Acts}
 use Rattle.vk_effect.proofs.Acting.{if_some_map}
@@ -25,7 +25,7 @@ use Rattle.vk_claims.specs.Claims.{IsMatchingOf, MayPublish, claim_case, proof_b
 use Rattle.vk_claims.specs.ClaimSamples.{ActsFreely, ActsSo, claim_sample_on, effect_by, effect_with}
 use Rattle.vk_claims.specs.Texts.{claim_read, files_of, made_text, read_said, summary_said}
 
-module _ (kind : ClaimKind) (case : SampleCase) (is : IsCaseOf (sizes_of kind) case) (numbers : List ℕ) (published : MayPublish kind case numbers)
+module _ (kind : Kind) (case : SampleCase) (is : IsCaseOf (sizes_of kind) case) (numbers : List ℕ) (published : MayPublish kind case numbers)
     (proof : ProofValue) (made : proof_by kind case numbers ≡ Ok proof) (number : ℕ) (text : List ℕ) (text_is : text ≡ made_text kind number proof.lanes proof.plan) where
   -- the files that were written are read back, and open every value
   reads_back : (files : Files)
@@ -66,7 +66,7 @@ module _ (number : ℕ) (numbers : List ℕ) (old new : Stores) where
   freely (Ok said) published acts = (numbers, published, acts)
   freely (Err stop) published acts = inr (numbers, published, acts)
 
-  by_kind : (kind : ClaimKind) (answer : Result SaidValue OutsideErr)
+  by_kind : (kind : Kind) (answer : Result SaidValue OutsideErr)
       → MayPublish kind (claim_case kind number) numbers
       → IfSome (effect_with kind old.files old.ledger number numbers)
       (λ effect. Acts answer effect old new) → ActsSo kind number answer old new
@@ -79,7 +79,7 @@ module _ (number : ℕ) (numbers : List ℕ) (old new : Stores) where
   by_kind Matching answer published acts = record { acts = tt; free = freely answer published acts }
 
 -- the case is that of the number, the numbers may be published of it, and this comes of its seeds
-pub claim_acts : (kind : ClaimKind) (number : ℕ) (case : SampleCase) (numbers : List ℕ)
+pub claim_acts : (kind : Kind) (number : ℕ) (case : SampleCase) (numbers : List ℕ)
     (made : Result ProofValue DrySeed) (answer : Result SaidValue OutsideErr) (old new : Stores)
     → case ≡ claim_case kind number → MayPublish kind case numbers
     → proof_by kind case numbers ≡ made
@@ -98,7 +98,7 @@ claim_acts kind number case numbers made answer old new case_is published comes 
     (subst P case_is (subst Q (sym comes) acts))
 
 -- it was stopped before any numbers were found, and nothing changed
-pub stopped_so : (kind : ClaimKind) (number : ℕ) (answer : Result SaidValue OutsideErr)
+pub stopped_so : (kind : Kind) (number : ℕ) (answer : Result SaidValue OutsideErr)
     → IsErr answer → (old : Stores) → ActsSo kind number answer old old
 stopped_so kind number (Ok said) refused old = absurd (let e = refused in cc)
 stopped_so Uniform number (Err stop) refused old =
@@ -110,7 +110,7 @@ stopped_so Matching number (Err stop) refused old = record { acts = tt; free = i
 
 -- ---- of what was made and found
 
-module _ (kind : ClaimKind) (number : ℕ) (case : SampleCase) (case_is : case ≡ claim_case kind number)
+module _ (kind : Kind) (number : ℕ) (case : SampleCase) (case_is : case ≡ claim_case kind number)
     (found numbers : List ℕ) (published : MayPublish kind case found) (numbers_are_found : numbers ≡ found) where
   may : MayPublish kind case numbers
   may = subst (MayPublish kind case) (sym numbers_are_found) published

@@ -3,7 +3,7 @@ use Rattle.std.proofs.Common.{◌≡◌, ℕ, List, length, Option, Some, None, 
 use Rattle.std.specs.Prelude.{◌↔◌}
 use Rattle.vk_report.specs.declared.sample.SampleCase.{SampleCase}
 use Rattle.vk_report.specs.Samples.{IsCaseOf}
-use Rattle.vk_words.specs.declared.claim.ClaimKind.{ClaimKind}
+use Rattle.vk_words.specs.declared.claim.Kind.{Kind}
 use Rattle.vk_claims.specs.Claims.{MayPublish, sizes_of}
 
 module _ {C : Type 0} (inputs_of : C → ℕ) (numbers_of : C → List ℕ) (inputs : ℕ) (numbers : List ℕ) where
@@ -29,15 +29,15 @@ module _ {C : Type 0} (inputs_of : C → ℕ) (numbers_of : C → List ℕ) (inp
 -- numbers that may be published of a case of a kind are a case of its circuit, and claim the bids
 pub record IsOfKind {C : Type 0} (inputs_of : C → ℕ) (numbers_of : C → List ℕ)
     (IsCase : ℕ → List ℕ → Type 0) (IsClaim : ℕ → List ℕ → List ℕ → Type 0)
-    (own : ClaimKind) : Type 0 where
+    (own : Kind) : Type 0 where
   pub case_is : (case : SampleCase) → IsCaseOf (sizes_of own) case → (numbers : List ℕ)
       → MayPublish own case numbers → IsCase (length case.seats) numbers
   pub claim_is : (case : SampleCase) → IsCaseOf (sizes_of own) case → (numbers : List ℕ)
       → MayPublish own case numbers → IsClaim (length case.seats) numbers case.bids
 
 -- the circuit of the numbers that are published of a case
-module _ {C : Type 0} {inputs_of : C → ℕ} {numbers_of : C → List ℕ} {IsCase : ℕ → List ℕ → Type 0} {IsClaim : ℕ → List ℕ → List ℕ → Type 0} {own : ClaimKind}
-    (circuit : IsOfKind inputs_of numbers_of IsCase IsClaim own) {kind : ClaimKind} (is : kind ≡ own) {case : SampleCase} (right : IsCaseOf (sizes_of kind) case)
+module _ {C : Type 0} {inputs_of : C → ℕ} {numbers_of : C → List ℕ} {IsCase : ℕ → List ℕ → Type 0} {IsClaim : ℕ → List ℕ → List ℕ → Type 0} {own : Kind}
+    (circuit : IsOfKind inputs_of numbers_of IsCase IsClaim own) {kind : Kind} (is : kind ≡ own) {case : SampleCase} (right : IsCaseOf (sizes_of kind) case)
     (numbers : List ℕ) (published : MayPublish kind case numbers) {inputs : ℕ} (inputs_are : inputs ≡ length case.seats)
     (found : Option C) (admitted : IsSome found ↔ IsCase inputs numbers) (of : IsOfNumbers inputs_of numbers_of inputs numbers found) where
   right_own : IsCaseOf (sizes_of own) case

@@ -9,7 +9,7 @@ use Rattle.vk_matching.specs.Stability.{IsPermutation, IsPerson, IsStable}
 use Rattle.vk_claim.specs.Values.{AreNumbers}
 use Rattle.vk_report.specs.declared.sample.SampleCase.{SampleCase}
 use Rattle.vk_report.specs.Samples.{IsCaseOf}
-use Rattle.vk_words.specs.declared.claim.ClaimKind.TheVariants.{Matching}
+use Rattle.vk_words.specs.declared.claim.Kind.TheVariants.{Matching}
 use Rattle.vk_claims.proofs.ByKind.{IsOfKind}
 use Rattle.vk_claims.specs.Claims.{IsMatchingOf, couples, sizes_of}
 

@@ -43,19 +43,19 @@ use Rattle.vk_report.specs.Samples.{IsCaseOf}
 use Rattle.vk_claims.specs.Circuits.{admitted_plan, claimed, claims_are_sound, part, plan_inputs, plan_of, plans_are_right}
 use Rattle.vk_sample_parts.proofs.Auctions.{AllRows}
 use Rattle.vk_sample_parts.proofs.Counted.{all_counted, held_first, none_named}
-use Rattle.vk_words.specs.declared.claim.ClaimKind.{ClaimKind}
+use Rattle.vk_words.specs.declared.claim.Kind.{Kind}
 use Rattle.vk_words.specs.Names.{AttemptWords}
 use Rattle.vk_claims.proofs.Cases.{eight_lanes}
 use Rattle.vk_claims.proofs.Shown.{IsShown, is_shown}
 use Rattle.vk_claims.proofs.Proofs.{IsMadeOf, is_sealed, made_of, seals_may_stand}
 use Rattle.vk_claims.proofs.Sizes.{file_is_short, reply_is_short}
-use Rattle.vk_claims.specs.Claims.{MayPublish, head_with, kind_in, proof_by, proof_with, sizes_of}
+use Rattle.vk_claims.specs.Claims.{MayPublish, head_with, proof_by, proof_with, sizes_of}
 use Rattle.vk_claims.specs.Laws.{ClaimSampleIsAccepted, HasSize, ClaimSampleOpensAll}
 use Rattle.vk_claims.specs.Texts.{claim_names, files_of}
 
 -- ---- the claim of a case
 
-module _ (kind : ClaimKind) (case : SampleCase) (is : IsCaseOf (sizes_of kind) case) (numbers : List ℕ) (shown : IsShown kind case numbers) (rows : List SealRow)
+module _ (kind : Kind) (case : SampleCase) (is : IsCaseOf (sizes_of kind) case) (numbers : List ℕ) (shown : IsShown kind case numbers) (rows : List SealRow)
     (all : AllRows case rows) (none : first_dry_in (source_of (proof_with kind case numbers rows)) ≡ None) where
   abbrev proof : ProofValue
   proof = proof_with kind case numbers rows
@@ -83,12 +83,12 @@ module _ (kind : ClaimKind) (case : SampleCase) (is : IsCaseOf (sizes_of kind) c
   }
 
   abbrev shown_front : PlannedFront
-  shown_front = planned front (plan_of (kind_in kind) (length case.seats) numbers)
+  shown_front = planned front (plan_of kind (length case.seats) numbers)
 
   admitted : IsAdmitted admitted_plan shown_front
   admitted = record {
     front = front_is;
-    admitted = part (kind_in kind) (length case.seats) numbers shown.case_is;
+    admitted = part kind (length case.seats) numbers shown.case_is;
   }
 
   -- the claim file is its front, the lanes and the end
@@ -197,7 +197,7 @@ module _ (kind : ClaimKind) (case : SampleCase) (is : IsCaseOf (sizes_of kind) c
 
   size : HasSize kind case numbers proof
   size = record {
-    inputs = plan_inputs (kind_in kind) (length case.seats) numbers ∙ is.seals_are;
+    inputs = plan_inputs kind (length case.seats) numbers ∙ is.seals_are;
     lanes = is.lanes_are ∙ eight_lanes kind;
     wires = shown.wires;
     rows = shown.rows;
@@ -282,7 +282,7 @@ module _ (kind : ClaimKind) (case : SampleCase) (is : IsCaseOf (sizes_of kind) c
 
 -- ---- of every case and what was made of it
 
-module _ (kind : ClaimKind) (case : SampleCase) (is : IsCaseOf (sizes_of kind) case) (numbers : List ℕ) (published : MayPublish kind case numbers) (proof : ProofValue)
+module _ (kind : Kind) (case : SampleCase) (is : IsCaseOf (sizes_of kind) case) (numbers : List ℕ) (published : MayPublish kind case numbers) (proof : ProofValue)
     (made : proof_by kind case numbers ≡ Ok proof) where
   of : IsMadeOf kind case numbers proof
   of = made_of kind case is.right numbers proof made

@@ -1,7 +1,7 @@
 -- Each kind is admitted exactly where it may have its numbers, and so it is by the code.
 use Rattle.std.proofs.Common.{◌≡◌, ℕ, List, Option, Some, None, IfSome, IsSome, ap, refl, sym, ◌∙◌}
 use Rattle.std.specs.Prelude.{◌↔◌, option_map}
-use Rattle.vk_claim.specs.declared.head.Kind.{Kind}
+use Rattle.vk_words.specs.declared.claim.Kind.{Kind}
 use Rattle.vk_claims.specs.Circuits.{IsCase, admitted_plan, claimed, no_part, part, plan_of}
 use Rattle.vk_claims.specs.Statuses.{Admits}
 

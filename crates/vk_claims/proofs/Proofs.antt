@@ -17,19 +17,19 @@ use Rattle.vk_job.proofs.Parts as job_parts
 use Rattle.vk_honest.specs.Answers.{IsSealedProof}
 use Rattle.vk_report.specs.declared.sample.SampleCase.{SampleCase}
 use Rattle.vk_report.specs.Samples.{IsCase}
-use Rattle.vk_words.specs.declared.claim.ClaimKind.{ClaimKind}
+use Rattle.vk_words.specs.declared.claim.Kind.{Kind}
 use Rattle.vk_sample_parts.specs.Auctions.{DrySeed, auction_with, dry_of, of_job, rows_onto, unless_dry}
 use Rattle.vk_sample_parts.proofs.Auctions.{AllRows, all_rows, is_auction, none_dry}
 use Rattle.vk_claims.specs.Circuits.{plan_inputs, plan_is_right, plan_of}
 use Rattle.vk_claims.proofs.Shown.{IsShown}
-use Rattle.vk_claims.specs.Claims.{kind_in, proof_by, proof_unless_dry, proof_with, values_of}
+use Rattle.vk_claims.specs.Claims.{proof_by, proof_unless_dry, proof_with, values_of}
 
-module _ (kind : ClaimKind) (case : SampleCase) (is : IsCase case) (numbers : List ℕ) (shown : IsShown kind case numbers) (rows : List SealRow) (all : AllRows case rows)
+module _ (kind : Kind) (case : SampleCase) (is : IsCase case) (numbers : List ℕ) (shown : IsShown kind case numbers) (rows : List SealRow) (all : AllRows case rows)
     (none : first_dry_in (source_of (proof_with kind case numbers rows)) ≡ None) where
   pub is_proof : IsProof (proof_with kind case numbers rows)
   is_proof = record {
-    plan = plan_is_right (kind_in kind) (length case.seats) numbers shown.case_is;
-    one_input_each = all.count ∙ sym (plan_inputs (kind_in kind) (length case.seats) numbers);
+    plan = plan_is_right kind (length case.seats) numbers shown.case_is;
+    one_input_each = all.count ∙ sym (plan_inputs kind (length case.seats) numbers);
     values = shown.holds;
     count = is.size.lanes;
     secrets = have_tapes case.auction case.width case.lanes rows all.right;
@@ -54,14 +54,14 @@ seals_may_stand case is rows all =
 
 -- ---- what was made
 
-pub record IsMadeOf (kind : ClaimKind) (case : SampleCase) (numbers : List ℕ)
+pub record IsMadeOf (kind : Kind) (case : SampleCase) (numbers : List ℕ)
     (proof : ProofValue) : Type 0 where
   pub rows : List SealRow
   pub all : AllRows case rows
   pub none : first_dry_in (source_of (proof_with kind case numbers rows)) ≡ None
   pub same : proof_with kind case numbers rows ≡ proof
 
-pub made_of : (kind : ClaimKind) (case : SampleCase) → IsCase case
+pub made_of : (kind : Kind) (case : SampleCase) → IsCase case
     → (numbers : List ℕ) (proof : ProofValue) → proof_by kind case numbers ≡ Ok proof
     → IsMadeOf kind case numbers proof
 unfolding proof_by
@@ -74,7 +74,7 @@ made_of kind case is numbers proof made =
     record { rows = rows; all = all_rows case is rows given.1; none = passed.0; same = passed.1 }
 
 -- of a case whose numbers are right, it is honest
-pub is_honest : (kind : ClaimKind) (case : SampleCase) → IsCase case → (numbers : List ℕ)
+pub is_honest : (kind : Kind) (case : SampleCase) → IsCase case → (numbers : List ℕ)
     → IsShown kind case numbers
     → (proof : ProofValue) → proof_by kind case numbers ≡ Ok proof → IsProof proof
 is_honest kind case is numbers shown proof made =
@@ -89,8 +89,8 @@ dry_refuses : (proof : ProofValue) (source : TapeSource) (refused : JobErr)
 dry_refuses proof source (job.DrySeed lane wire) is = ap (unless_dry proof) is
 dry_refuses proof source job.NoMemory is = tt
 
-module _ (kind : ClaimKind) (case : SampleCase) (numbers : List ℕ) (rows : List SealRow) (rows_are : rows_onto case [] (length case.seats) ≡ Ok rows)
-    (plan : PlanValue) (plan_is : plan ≡ plan_of (kind_in kind) (length case.seats) numbers) (further : ℕ) (further_is : further ≡ length plan.kinds - plan.inputs) where
+module _ (kind : Kind) (case : SampleCase) (numbers : List ℕ) (rows : List SealRow) (rows_are : rows_onto case [] (length case.seats) ≡ Ok rows)
+    (plan : PlanValue) (plan_is : plan ≡ plan_of kind (length case.seats) numbers) (further : ℕ) (further_is : further ≡ length plan.kinds - plan.inputs) where
   same_source : source_with case.auction rows case.lanes case.seed further
       ≡ source_of (proof_with kind case numbers rows)
   same_source = ap (source_with case.auction rows case.lanes case.seed)

@@ -12,7 +12,7 @@ use Rattle.vk_uniform.specs.UniformPlans.{IsUniformCase, IsUniformClaim, losers_
 use Rattle.vk_claim.specs.Values.{AreNumbers}
 use Rattle.vk_report.specs.declared.sample.SampleCase.{SampleCase}
 use Rattle.vk_report.specs.Samples.{IsCaseOf}
-use Rattle.vk_words.specs.declared.claim.ClaimKind.TheVariants.{Uniform}
+use Rattle.vk_words.specs.declared.claim.Kind.TheVariants.{Uniform}
 use Rattle.vk_claims.proofs.ByKind.{IsOfKind}
 use Rattle.vk_claims.specs.Claims.{IsSaleOf, claim_case, enough_bids, numbers_of, sizes_of, some_unit, units}
 

@@ -8,10 +8,11 @@ use Rattle.vk_board.specs.Values.{AreSealsOf}
 use Rattle.vk_reply.specs.declared.challenge.Challenge.{Challenge}
 use Rattle.vk_reply.specs.Values.{IsChallenge}
 use Rattle.vk_claim.specs.declared.head.ClaimHead.{ClaimHead}
-use Rattle.vk_claim.specs.declared.head.Kind.{Kind}
-use Rattle.vk_claim.specs.declared.head.Kind.TheVariants.{Uniform, Matching}
+use Rattle.vk_words.specs.declared.claim.Kind.{Kind}
+use Rattle.vk_words.specs.declared.claim.Kind.TheVariants.{Uniform, Matching}
+use Rattle.vk_words.specs.Claims.{kind_word}
 use Rattle.vk_claim.specs.Values.{AreNumbers, IsClaimHead}
-use Rattle.vk_claim.specs.Texts.{claim_head_text, kind_word, numbers_text}
+use Rattle.vk_claim.specs.Texts.{claim_head_text, numbers_text}
 use Rattle.vk_job.specs.Proofs.{IsProof, ProofValue, file_of, lanes_shown_from, reply_in, seal_lines_of}
 use Rattle.vk_job.proofs.Parts.{length_shown, reply_is}
 use Rattle.vk_honest.specs.Sizes.{IsShort}

@@ -6,8 +6,8 @@ use Rattle.vk_uniform.specs.UniformLaws.{uniform_inputs, uniform_is_plan, unifor
 use Rattle.vk_uniform.specs.UniformPlans.{IsUniformCase, IsUniformClaim, uniform_plan}
 use Rattle.vk_matching.specs.MatchingLaws.{matching_inputs, matching_is_plan, matching_sound}
 use Rattle.vk_matching.specs.MatchingPlans.{IsMatchingCase, IsMatchingClaim, matching_plan}
-use Rattle.vk_claim.specs.declared.head.Kind.{Kind}
-use Rattle.vk_claim.specs.declared.head.Kind.TheVariants.{Uniform, Matching}
+use Rattle.vk_words.specs.declared.claim.Kind.{Kind}
+use Rattle.vk_words.specs.declared.claim.Kind.TheVariants.{Uniform, Matching}
 use Rattle.vk_claim.specs.Values.{Claims, Plans}
 use Rattle.vk_claims.specs.Cases.{is_matching_case, is_uniform_case, matching_decides, uniform_decides}
 

@@ -12,26 +12,19 @@ use Rattle.vk_uniform.specs.UniformPlans.{uniform_values}
 use Rattle.vk_matching.specs.MatchingPlans.{matching_values}
 use Rattle.vk_matching.specs.Stability.{IsPermutation, IsStable}
 use Rattle.vk_claim.specs.declared.head.ClaimHead.{ClaimHead}
-use Rattle.vk_claim.specs.declared.head.Kind.{Kind}
-use Rattle.vk_claim.specs.declared.head.Kind.TheVariants as kinds
 use Rattle.vk_report.specs.declared.sample.SampleCase.{SampleCase}
 use Rattle.vk_report.specs.declared.sample.Sizes.{Sizes}
 use Rattle.vk_report.specs.Samples.{case_of}
-use Rattle.vk_words.specs.declared.claim.ClaimKind.{ClaimKind}
-use Rattle.vk_words.specs.declared.claim.ClaimKind.TheVariants.{Uniform, Matching}
+use Rattle.vk_words.specs.declared.claim.Kind.{Kind}
+use Rattle.vk_words.specs.declared.claim.Kind.TheVariants.{Uniform, Matching}
 use Rattle.vk_claims.specs.Circuits.{plan_of}
 use Rattle.vk_sample_parts.specs.Auctions.{DrySeed, rows_onto, unless_dry}
 use Rattle.vk_claims.specs.declared.making.Made.{Made}
 
 -- ---- the kinds
 
--- the kind of the claim file
-abbrev pub kind_in : ClaimKind → Kind
-kind_in Uniform = kinds.Uniform
-kind_in Matching = kinds.Matching
-
 -- the values of all wires by those of so many inputs, where these numbers are published
-abbrev pub values_of : ClaimKind → ℕ → List ℕ → List ℕ → List ℕ
+abbrev pub values_of : Kind → ℕ → List ℕ → List ℕ → List ℕ
 values_of Uniform = uniform_values
 values_of Matching = matching_values
 
@@ -39,11 +32,11 @@ values_of Matching = matching_values
 
 -- the letters are `VKS2` or `VKS3`; a matching has a seal for each rank that one of the four has of
 -- one of the others
-abbrev pub sizes_of : ClaimKind → Sizes
+abbrev pub sizes_of : Kind → Sizes
 sizes_of Uniform = record { letters = codes "VKS2"; seals = 10; width = 16; lanes = 8 }
 sizes_of Matching = record { letters = codes "VKS3"; seals = 32; width = 8; lanes = 8 }
 
-abbrev pub claim_case : ClaimKind → ℕ → SampleCase
+abbrev pub claim_case : Kind → ℕ → SampleCase
 claim_case kind = case_of (sizes_of kind)
 
 -- ---- the sale
@@ -97,30 +90,30 @@ pub record IsMatchingOf (case : SampleCase) (numbers : List ℕ) : Type 0 where
 
 -- the numbers may be published of the case: those of the one outcome, or of a stable matching, of
 -- which there may be several
-abbrev pub MayPublish : ClaimKind → SampleCase → List ℕ → Type 0
+abbrev pub MayPublish : Kind → SampleCase → List ℕ → Type 0
 MayPublish Uniform case numbers = IsSaleOf case numbers
 MayPublish Matching case numbers = IsMatchingOf case numbers
 
 -- ---- the proof
 
 -- the head of the claim file, where these numbers are published
-abbrev pub head_with : ClaimKind → SampleCase → List ℕ → ClaimHead
+abbrev pub head_with : Kind → SampleCase → List ℕ → ClaimHead
 head_with kind case numbers = record {
   auction = case.auction;
-  kind = kind_in kind;
+  kind = kind;
   lanes = case.lanes;
   inputs = length case.seats;
   numbers = numbers;
 }
 
 -- what the honest proof of a case is made from, where these numbers are published
-abbrev pub proof_with : ClaimKind → SampleCase → List ℕ → List SealRow → ProofValue
+abbrev pub proof_with : Kind → SampleCase → List ℕ → List SealRow → ProofValue
 proof_with kind case numbers rows =
     job.proof_with case.auction rows case.lanes case.seed
-    (plan_of (kind_in kind) (length case.seats) numbers)
+    (plan_of kind (length case.seats) numbers)
     (values_of kind (length case.seats) numbers case.bids)
 
-abbrev pub proof_unless_dry : ClaimKind → SampleCase → List ℕ → List SealRow
+abbrev pub proof_unless_dry : Kind → SampleCase → List ℕ → List SealRow
     → Result ProofValue DrySeed
 proof_unless_dry kind case numbers rows =
     unless_dry (proof_with kind case numbers rows)
@@ -128,7 +121,7 @@ proof_unless_dry kind case numbers rows =
 
 -- what the proof is made from, or the first seed that is dry: of the sealers in the order of their
 -- seals, then the prover's
-unfoldable pub proof_by : ClaimKind → SampleCase → List ℕ → Result ProofValue DrySeed
+unfoldable pub proof_by : Kind → SampleCase → List ℕ → Result ProofValue DrySeed
 proof_by kind case numbers = rows_onto case [] (length case.seats) >>= proof_unless_dry kind case
     numbers
 

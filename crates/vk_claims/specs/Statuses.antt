@@ -10,8 +10,8 @@ use Rattle.vk_bids.specs.Texts.{clash_text}
 use Rattle.vk_plan.specs.Plans.{PlanValue}
 use Rattle.vk_uniform.specs.UniformPlans.{IsUniformCase, IsUniformClaim, uniform_plan}
 use Rattle.vk_matching.specs.MatchingPlans.{IsMatchingCase, IsMatchingClaim, matching_plan}
-use Rattle.vk_claim.specs.declared.head.Kind.{Kind}
-use Rattle.vk_claim.specs.declared.head.Kind.TheVariants.{Uniform, Matching}
+use Rattle.vk_words.specs.declared.claim.Kind.{Kind}
+use Rattle.vk_words.specs.declared.claim.Kind.TheVariants.{Uniform, Matching}
 use Rattle.vk_claim.specs.Extraction.{ClaimExtraction, IsClaimOpened, TwoClaimsAccepted}
 use Rattle.vk_claim.specs.Printing.{claim_extraction_text}
 use Rattle.vk_claim.specs.Verdicts.{ClaimJudged}

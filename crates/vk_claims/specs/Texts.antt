@@ -6,10 +6,11 @@ use Rattle.vk_reply.specs.Texts.{challenge_text}
 use Rattle.vk_judge.specs.declared.answers.VErr.{VErr}
 use Rattle.vk_bids.specs.declared.extraction.Extraction.TheVariants.{Refused, Same, Clash, Bids}
 use Rattle.vk_claim.specs.Extraction.{ClaimExtraction, claim_extraction_on}
-use Rattle.vk_claim.specs.Texts.{claim_head_text, kind_word}
+use Rattle.vk_claim.specs.Texts.{claim_head_text}
 use Rattle.vk_job.specs.Proofs.{ProofValue, file_of, reply_in}
 use Rattle.vk_report.specs.declared.sample.SampleCase.{SampleCase}
-use Rattle.vk_words.specs.declared.claim.ClaimKind.{ClaimKind}
+use Rattle.vk_words.specs.declared.claim.Kind.{Kind}
+use Rattle.vk_words.specs.Claims.{kind_word}
 use Rattle.vk_words.specs.Names.{ExtractWords}
 use Rattle.vk_effect.specs.Effects.{SaidValue}
 use Rattle.vk_effect.specs.Texts.{◌+++◌, line_feed}
@@ -17,7 +18,7 @@ use Rattle.vk_audit.specs.Verdicts.{unread_said}
 use Rattle.vk_claims.specs.Circuits.{admitted_plan}
 use Rattle.vk_claims.specs.Extractions.{claim_extraction_said}
 use Rattle.vk_sample_parts.specs.Texts.{found_text, same_count}
-use Rattle.vk_claims.specs.Claims.{head_with, kind_in}
+use Rattle.vk_claims.specs.Claims.{head_with}
 
 -- ---- the files
 
@@ -30,7 +31,7 @@ claim_names = record {
 
 -- those that are written, in order: the honest prover's claim file, where these numbers are
 -- published, and its replies to both challenges
-abbrev pub files_of : ClaimKind → SampleCase → List ℕ → ProofValue → List (List ℕ × List ℕ)
+abbrev pub files_of : Kind → SampleCase → List ℕ → ProofValue → List (List ℕ × List ℕ)
 files_of kind case numbers proof =
     (claim_names.board, file_of (claim_head_text (head_with kind case numbers)) proof)
     ∷ (claim_names.first.challenge, challenge_text case.first)
@@ -42,9 +43,9 @@ files_of kind case numbers proof =
 -- ---- the summary
 
 -- of the claim as it was made: its kind and its number, and how large its circuit is
-abbrev pub made_text : ClaimKind → ℕ → ℕ → PlanValue → List ℕ
+abbrev pub made_text : Kind → ℕ → ℕ → PlanValue → List ℕ
 made_text kind number lanes plan =
-    (codes "claim-sample " +++ kind_word (kind_in kind) +++ codes " " +++ decimal number +++
+    (codes "claim-sample " +++ kind_word kind +++ codes " " +++ decimal number +++
     line_feed)
     ++ (codes "inputs " +++ decimal plan.inputs +++ codes " lanes " +++ decimal lanes
     +++ codes " wires " +++ decimal (length plan.kinds) +++ codes " rows " +++ decimal
@@ -78,7 +79,7 @@ claim_read files =
 
 -- the summary of files that both replies are accepted of, and that open the same value of every
 -- seal in every lane
-abbrev pub summary_said : ClaimKind → ℕ → ProofValue → SaidValue
+abbrev pub summary_said : Kind → ℕ → ProofValue → SaidValue
 summary_said kind number proof =
     record {
       status = 0;

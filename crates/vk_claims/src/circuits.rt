@@ -2,7 +2,7 @@
 
 ghost use Rattle.std.specs.Prelude.{◌≡◌, IfOk, option_map};
 ghost use Rattle.vk_claims.specs.Circuits.{admitted_plan, claimed, claims_are_sound, plans_are_right};
-ghost use Rattle.vk_claim.specs.declared.head.Kind.TheVariants.{Uniform, Matching};
+ghost use Rattle.vk_words.specs.declared.claim.Kind.TheVariants.{Uniform, Matching};
 
 use std::alloc::Global;
 use vk_claim::{Circuits, ClaimHead, Kind};

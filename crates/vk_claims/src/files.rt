@@ -6,7 +6,7 @@ ghost use Rattle.vk_io.specs.Writing.{WritesAll};
 ghost use Rattle.vk_job.specs.Proofs.{IsProof};
 ghost use Rattle.vk_judge.specs.Wanting.{MemoryWasWanting};
 ghost use Rattle.vk_claim.specs.Texts.{claim_head_text};
-ghost use Rattle.vk_claims.specs.Claims.{IsReady, head_with, kind_in, proof_in};
+ghost use Rattle.vk_claims.specs.Claims.{IsReady, head_with, proof_in};
 ghost use Rattle.vk_claims.specs.Texts.{files_of};
 
 use crate::making::Made;
@@ -19,22 +19,11 @@ use vk_report::SampleCase;
 use vk_residue::NoMemory;
 use vk_sample_parts::ProofFiles;
 use vk_seq::Seq;
-use vk_words::ClaimKind;
-
-/// The kind of the claim file.
-pub fn kind_in(kind: ClaimKind) -> Kind
-    ensures { result ≡ kind_in kind }
-{
-    match kind {
-        ClaimKind::Uniform => Kind::Uniform,
-        ClaimKind::Matching => Kind::Matching,
-    }
-}
 
 /// The text of the head of the claim file.
 fn head_of(
     alloc: Global,
-    kind: ClaimKind,
+    kind: Kind,
     case: &SampleCase,
     numbers: &[u64],
 ) -> Result<Vec<u8>, NoMemory>
@@ -44,7 +33,7 @@ fn head_of(
 {
     let head = ClaimHead {
         auction: case.auction,
-        kind: kind_in(kind),
+        kind,
         lanes: case.lanes,
         inputs: case.seats.len() as u32,
         numbers: Seq::from_vec(Vec::from_slice(alloc, numbers)?),
@@ -59,7 +48,7 @@ fn head_of(
 pub fn write_claim<S: Shelf>(
     alloc: Global,
     shelf: &mut S,
-    kind: ClaimKind,
+    kind: Kind,
     case: &SampleCase,
     numbers: &[u64],
     made: &Made,

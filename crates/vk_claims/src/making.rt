@@ -6,7 +6,7 @@ ghost use Rattle.vk_judge.specs.Wanting.{MemoryWasWanting};
 ghost use Rattle.vk_report.specs.Samples.{IsCaseOf};
 ghost use Rattle.vk_claims.specs.Circuits.{plan_of};
 ghost use Rattle.vk_sample_parts.specs.Auctions.{dry_of};
-ghost use Rattle.vk_claims.specs.Claims.{IsReady, MayPublish, kind_in, proof_by, proof_in, sizes_of, values_of};
+ghost use Rattle.vk_claims.specs.Claims.{IsReady, MayPublish, proof_by, proof_in, sizes_of, values_of};
 
 use std::alloc::Global;
 use vk_job::{Prepared, draw_tapes};
@@ -18,7 +18,7 @@ use vk_residue::{NoMemory, Residue};
 use vk_sample_parts::{SampleErr, seal_rows};
 use vk_seq::Seq;
 use vk_uniform::UniformPlan;
-use vk_words::ClaimKind;
+use vk_words::Kind;
 
 /// What the honest proof of a case is made from besides it: the seals with their secrets, and what
 /// serves for every lane.
@@ -39,7 +39,7 @@ struct Filled {
 #[tactic(auto, unfolding(crate::specs::Claims::proof_by), using(vk_judge::specs::Wanting::memory_was_wanting))]
 pub fn make_claim(
     alloc: Global,
-    kind: ClaimKind,
+    kind: Kind,
     case: &SampleCase,
     numbers: &[u64],
 ) -> Result<Made, SampleErr>
@@ -72,26 +72,26 @@ pub fn make_claim(
 /// The plan of these numbers, filled with the case's values.
 fn filled_by(
     alloc: Global,
-    kind: ClaimKind,
+    kind: Kind,
     case: &SampleCase,
     numbers: &[u64],
 ) -> Result<Filled, NoMemory>
     requires published { MayPublish kind case.now numbers.now }
     requires right { IsCaseOf (sizes_of kind) case.now }
     ensures plan { IfOk result
-        (λ filled. filled.plan ≡ plan_of (kind_in kind) (length case.now.seats) numbers.now) }
+        (λ filled. filled.plan ≡ plan_of kind (length case.now.seats) numbers.now) }
     ensures values { IfOk result
         (λ filled. filled.values
         ≡ values_of kind (length case.now.seats) numbers.now case.now.bids) }
 {
     let inputs = case.seats.len() as u32;
     match kind {
-        ClaimKind::Uniform => {
+        Kind::Uniform => {
             let circuit = UniformPlan::from_numbers(alloc, inputs, numbers)?;
             let filled = fill(alloc, &circuit, case.bids.as_slice())?;
             Ok(filled)
         }
-        ClaimKind::Matching => {
+        Kind::Matching => {
             let circuit = MatchingPlan::from_numbers(alloc, inputs, numbers)?;
             let filled = fill(alloc, &circuit, case.bids.as_slice())?;
             Ok(filled)

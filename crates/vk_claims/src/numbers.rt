@@ -4,7 +4,7 @@ ghost use Rattle.std.specs.Prelude.{◌≡◌, ◌++◌, IfOk, IsErr};
 ghost use Rattle.vk_judge.specs.Wanting.{MemoryWasWanting};
 ghost use Rattle.vk_report.specs.Samples.{IsCaseOf};
 ghost use Rattle.vk_claims.specs.Claims.{IsMatchingOf, IsSaleOf, MayPublish, sizes_of};
-ghost use Rattle.vk_words.specs.declared.claim.ClaimKind.TheVariants.{Uniform, Matching};
+ghost use Rattle.vk_words.specs.declared.claim.Kind.TheVariants.{Uniform, Matching};
 
 use std::alloc::Global;
 use vk_matching::propose;
@@ -12,7 +12,7 @@ use vk_report::{SampleCase, Sizes};
 use vk_residue::NoMemory;
 use vk_seq::Seq;
 use vk_uniform::uniform;
-use vk_words::ClaimKind;
+use vk_words::Kind;
 
 /// How many units are sold.
 const UNITS: u32 = 3;
@@ -22,17 +22,17 @@ const COUPLES: u32 = 4;
 
 /// What the case of a claim has: 10 seals of bids below 2^16, or 32 of ranks below 2^8, and 8
 /// lanes.
-pub fn sizes_of(kind: ClaimKind) -> Sizes
+pub fn sizes_of(kind: Kind) -> Sizes
     ensures { result ≡ sizes_of kind }
 {
     match kind {
-        ClaimKind::Uniform => Sizes {
+        Kind::Uniform => Sizes {
             letters: *b"VKS2",
             seals: 10,
             width: 16,
             lanes: 8,
         },
-        ClaimKind::Matching => Sizes {
+        Kind::Matching => Sizes {
             letters: *b"VKS3",
             seals: 32,
             width: 8,
@@ -42,17 +42,17 @@ pub fn sizes_of(kind: ClaimKind) -> Sizes
 }
 
 /// Numbers that may be published of the case.
-pub fn numbers_of(alloc: Global, kind: ClaimKind, case: &SampleCase) -> Result<Seq<u64>, NoMemory>
+pub fn numbers_of(alloc: Global, kind: Kind, case: &SampleCase) -> Result<Seq<u64>, NoMemory>
     requires { IsCaseOf (sizes_of kind) case.now }
     ensures may { IfOk result (MayPublish kind case.now) }
     ensures wanting { IsErr result → MemoryWasWanting }
 {
     match kind {
-        ClaimKind::Uniform => {
+        Kind::Uniform => {
             let numbers = sale_of(alloc, case)?;
             Ok(numbers)
         }
-        ClaimKind::Matching => {
+        Kind::Matching => {
             let numbers = matching_of(alloc, case)?;
             Ok(numbers)
         }

@@ -16,7 +16,7 @@ use vk_effect::Said;
 use vk_io::{OutsideErr, Shelf};
 use vk_report::{SampleCase, case_of};
 use vk_residue::NoMemory;
-use vk_words::ClaimKind;
+use vk_words::Kind;
 
 /// Makes the claim of a number with its file and two replies, writes them, reads them back, and
 /// says what they come to. Files that stand under their names are replaced; where a seed is dry
@@ -25,7 +25,7 @@ use vk_words::ClaimKind;
 pub fn claim_sample<S: Shelf>(
     alloc: Global,
     shelf: &mut S,
-    kind: ClaimKind,
+    kind: Kind,
     number: u64,
 ) -> Result<Said, OutsideErr>
     ensures acts { ActsAs (λ ledger. claim_sample_on (S.held shelf.old) ledger kind number) result
@@ -41,7 +41,7 @@ pub fn claim_sample<S: Shelf>(
 
 /// The case of the number.
 #[tactic(auto, using(vk_judge::specs::Wanting::memory_was_wanting))]
-fn claim_case(alloc: Global, kind: ClaimKind, number: u64) -> Result<SampleCase, NoMemory>
+fn claim_case(alloc: Global, kind: Kind, number: u64) -> Result<SampleCase, NoMemory>
     ensures case { IfOk result (λ case. case ≡ claim_case kind number) }
     ensures right { IfOk result (IsCaseOf (sizes_of kind)) }
     ensures wanting { IsErr result → MemoryWasWanting }
@@ -55,7 +55,7 @@ fn claim_case(alloc: Global, kind: ClaimKind, number: u64) -> Result<SampleCase,
 fn make_and_hold<S: Shelf>(
     alloc: Global,
     shelf: &mut S,
-    kind: ClaimKind,
+    kind: Kind,
     number: u64,
 ) -> Result<Said, OutsideErr>
     ensures so { ActsOn kind number result (S.held shelf.old) (S.held shelf.new) }
@@ -82,7 +82,7 @@ fn make_and_hold<S: Shelf>(
 fn hold<S: Shelf>(
     alloc: Global,
     shelf: &mut S,
-    kind: ClaimKind,
+    kind: Kind,
     number: u64,
     case: &SampleCase,
     numbers: &[u64],

@@ -6,8 +6,6 @@ ghost use Rattle.vk_judge.specs.Wanting.{MemoryWasWanting};
 ghost use Rattle.vk_bids.specs.Texts.{clash_text};
 ghost use Rattle.vk_bids.specs.declared.extraction.Extraction.TheVariants as comes;
 ghost use Rattle.vk_sample_parts.specs.Texts.{found_text, same_count};
-ghost use Rattle.vk_claim.specs.Texts.{kind_word};
-ghost use Rattle.vk_claims.specs.Claims.{kind_in};
 ghost use Rattle.vk_claims.specs.Texts.{made_text, opened_said};
 
 use crate::extractions::claim_extracted;
@@ -19,23 +17,13 @@ use vk_effect::Said;
 use vk_plan::Plan;
 use vk_residue::NoMemory;
 use vk_sample_parts::{found_lines, push_two, same_count};
-use vk_words::ClaimKind;
-
-/// The word that names a kind.
-fn kind_name(kind: ClaimKind) -> &'static str
-    ensures { result.now ≡ kind_word (kind_in kind) }
-{
-    match kind {
-        ClaimKind::Uniform => "uniform",
-        ClaimKind::Matching => "matching",
-    }
-}
+use vk_words::Kind;
 
 /// The lines of the claim as it was made, by its circuit and the number of its lanes.
 #[tactic(auto, using(vk_judge::specs::Wanting::memory_was_wanting))]
 pub fn made_lines(
     alloc: Global,
-    kind: ClaimKind,
+    kind: Kind,
     number: u64,
     lanes: u32,
     plan: &Plan,
@@ -45,7 +33,7 @@ pub fn made_lines(
     ensures wanting { IsErr result → MemoryWasWanting }
 {
     let mut text = Vec::new(alloc);
-    let (name, inputs, wires, rows) = (kind_name(kind), plan.inputs(), plan.wires(), plan.rows());
+    let (name, inputs, wires, rows) = (kind.word(), plan.inputs(), plan.wires(), plan.rows());
     let first = format!(in alloc; "claim-sample {name} {number}\n")?;
     let second = format!(in alloc; "inputs {inputs} lanes {lanes} wires {wires} rows {rows}\n")?;
     push_two(&mut text, first, second)?;

@@ -6,7 +6,7 @@ use Rattle.vk_io.specs.declared.errors.OutsideErr.{OutsideErr}
 use Rattle.vk_io.specs.declared.errors.OutsideErr.TheVariants.{Failed}
 use Rattle.vk_keeper.specs.Ledgers.{Ledger}
 use Rattle.vk_house.specs.Once.{KeepsAnswers}
-use Rattle.vk_words.specs.declared.claim.ClaimKind.TheVariants.{Matching}
+use Rattle.vk_words.specs.declared.claim.Kind.TheVariants.{Matching}
 use Rattle.vk_words.specs.Coins.{CoinWords}
 use Rattle.vk_words.specs.Commands.{ClaimSample, Coin, Seal, command_words}
 use Rattle.vk_words.specs.Orders.{SealWords}

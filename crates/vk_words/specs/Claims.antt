@@ -3,12 +3,17 @@ use Rattle.std.specs.Prelude.{ℕ, if◌then◌else◌, List, codes, Option, Som
 use Rattle.std.specs.Str.{bytes_eq}
 use Rattle.vk_words.specs.declared.audits.ClaimOrder.{ClaimOrder}
 use Rattle.vk_words.specs.declared.audits.ClaimOrder.TheVariants as orders
-use Rattle.vk_words.specs.declared.claim.ClaimKind.{ClaimKind}
-use Rattle.vk_words.specs.declared.claim.ClaimKind.TheVariants.{Uniform, Matching}
+use Rattle.vk_words.specs.declared.claim.Kind.{Kind}
+use Rattle.vk_words.specs.declared.claim.Kind.TheVariants.{Uniform, Matching}
 use Rattle.vk_words.specs.Names.{ExtractWords, VerifyWords, extract_seen, verify_seen}
 
+-- the word of a kind
+abbrev pub kind_word : Kind → List ℕ
+kind_word Uniform = codes "uniform"
+kind_word Matching = codes "matching"
+
 -- the kind that a word names
-abbrev pub kind_named : List ℕ → Option ClaimKind
+abbrev pub kind_named : List ℕ → Option Kind
 kind_named word =
     if bytes_eq word (codes "uniform") then Some Uniform
     else if bytes_eq word (codes "matching") then Some Matching

@@ -11,7 +11,7 @@ use Rattle.vk_words.specs.Audits.{AuditWords, audit_seen}
 use Rattle.vk_words.specs.Audits as audits
 use Rattle.vk_words.specs.Claims.{ClaimWords, claim_order_seen, kind_named}
 use Rattle.vk_words.specs.Claims as claims
-use Rattle.vk_words.specs.declared.claim.ClaimKind.{ClaimKind}
+use Rattle.vk_words.specs.declared.claim.Kind.{Kind}
 use Rattle.vk_words.specs.Coins.{CoinWords, IsCoinOrder, coin_by, coin_seen}
 use Rattle.vk_words.specs.Names.{confront_in, extract_in, name_at, verify_in, nth_word}
 use Rattle.vk_words.specs.Orders.{HouseWords, IsHouseOrder, IsSealOrder, SealWords, house_by, house_seen, seal_in, seal_seen}
@@ -25,7 +25,7 @@ pub data CommandWords : Type 0 where
   Sample : ℕ → CommandWords
   Ceremony : List ℕ → CommandWords
   Claim : ClaimWords → CommandWords
-  ClaimSample : ClaimKind → ℕ → CommandWords
+  ClaimSample : Kind → ℕ → CommandWords
   Coin : CoinWords → CommandWords
 
 abbrev pub command_seen : Command → CommandWords

@@ -1,25 +1,39 @@
-//! The kinds of claims that there are samples of.
+//! The kinds of claims, by the words that name them.
 
 ghost use Rattle.std.specs.Prelude.{◌≡◌};
-ghost use Rattle.vk_words.specs.Claims.{kind_named};
+ghost use Rattle.vk_words.specs.Claims.{kind_named, kind_word};
 
-/// A kind of claims.
+use vk_lines::read_word;
+
+/// What is claimed of sealed values: which circuits a public part may have.
 #[derive(Clone, Copy, Debug, PartialEq, Eq)]
-pub enum ClaimKind {
-    /// One price for several equal units.
+pub enum Kind {
+    /// Several equal units are sold at one price.
     Uniform,
-    /// A matching without a blocking pair.
+    /// No man and woman who aren't matched rank each other better than their own.
     Matching,
 }
 
+impl Kind {
+    /// The word that names it.
+    pub fn word(self) -> &'static str
+        ensures { result.now ≡ kind_word self }
+    {
+        match self {
+            Kind::Uniform => "uniform",
+            Kind::Matching => "matching",
+        }
+    }
+}
+
 /// The kind that the word names.
-pub fn claim_kind(word: &str) -> Option<ClaimKind>
+pub fn kind_named(word: &[u8]) -> Option<Kind>
     ensures { result ≡ kind_named word.now }
 {
-    if word == "uniform" {
-        Some(ClaimKind::Uniform)
-    } else if word == "matching" {
-        Some(ClaimKind::Matching)
+    if read_word(word, b"uniform").is_some() {
+        Some(Kind::Uniform)
+    } else if read_word(word, b"matching").is_some() {
+        Some(Kind::Matching)
     } else {
         None
     }

@@ -5,7 +5,7 @@ ghost use Rattle.vk_words.specs.Commands.{AsksNoKeeper, IsCommand, command_by, c
 ghost use Rattle.vk_words.specs.Orders.{IsHouseOrder, house_seen};
 
 use crate::audits::{AuditOrder, ClaimOrder};
-use crate::claim::{ClaimKind, claim_kind};
+use crate::claim::{Kind, kind_named};
 use crate::coins::{CoinOrder, coin_order};
 use crate::names::{confront_names, extract_names, verify_names};
 use crate::orders::{HouseOrder, SealOrder, house_order, seal_order};
@@ -25,7 +25,7 @@ pub enum Command<'a> {
     Ceremony(&'a str),
     Claim(ClaimOrder<'a>),
     /// The kind of the sample's claim, and its number.
-    ClaimSample { kind: ClaimKind, number: u64 },
+    ClaimSample { kind: Kind, number: u64 },
     /// A challenge that the auctioneer doesn't choose, or a share of one.
     Coin(CoinOrder<'a>),
 }
@@ -49,7 +49,7 @@ fn command_by(verb: Verb, words: &[String]) -> Option<Command<'_>>
         Verb::ClaimVerify => Command::Claim(ClaimOrder::Verify(verify_names(words)?)),
         Verb::ClaimExtract => Command::Claim(ClaimOrder::Extract(extract_names(words)?)),
         Verb::ClaimSample => {
-            let kind = claim_kind(word(words, 1))?;
+            let kind = kind_named(word(words, 1).as_bytes())?;
             let number = read_decimal(word(words, 2).as_bytes(), u64::MAX)?;
             Command::ClaimSample { kind, number }
         }

@@ -3,7 +3,7 @@
 ghost use Rattle.std.specs.Prelude.{◌≡◌, ◌-◌, ◌^◌, ◌<◌, ◌≤◌, length, map, string_bytes};
 ghost use Rattle.vk_words.specs.Hints.{is_of_kind, kinds_of, most_reserve};
 
-use crate::claim::claim_kind;
+use crate::claim::kind_named;
 use crate::table::Verb;
 use crate::word::{count, name, word};
 use vk_lines::{read_decimal, read_hex16, read_hex32};
@@ -89,6 +89,6 @@ pub fn is_of_kind(kind: WordKind, words: &[String], place: usize) -> bool
         }
         WordKind::Name => name(words, place).is_some(),
         WordKind::OtherName => { name(words, place).is_some() && word(words, place - 1) != text }
-        WordKind::Kind => claim_kind(text).is_some(),
+        WordKind::Kind => kind_named(text.as_bytes()).is_some(),
     }
 }

@@ -18,7 +18,7 @@ mod word;
 
 pub use advice::hint_line;
 pub use audits::{AuditOrder, ClaimOrder};
-pub use claim::ClaimKind;
+pub use claim::{Kind, kind_named};
 pub use coins::{ChallengeNames, CoinOrder, PartOrder};
 pub use command::{Command, command_of, house_order_of, may_ask_house};
 pub use hints::{Hint, hint_of};

@@ -1,6 +1,6 @@
 use Rattle.std.proofs.Common.{◌∙◌}
 use Rattle.vk_uniform.specs.Circuits.{inputs_of, numbers_of}
-use Rattle.vk_claim.specs.declared.head.Kind.TheVariants.{Uniform}
+use Rattle.vk_words.specs.declared.claim.Kind.TheVariants.{Uniform}
 use Rattle.vk_claims.proofs.Parts.{part_is}
 use Rattle.vk_claims.proofs.circuits.plan_of_units.Goals as goal
 

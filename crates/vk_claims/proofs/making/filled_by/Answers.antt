@@ -4,7 +4,7 @@ use Rattle.vk_claims.specs.Circuits.{plan_of}
 use Rattle.vk_claims.proofs.ByKind.{claims, gives}
 use Rattle.vk_claims.proofs.Matchings as matching
 use Rattle.vk_claims.proofs.Sales as sale
-use Rattle.vk_claims.specs.Claims.{kind_in, values_of}
+use Rattle.vk_claims.specs.Claims.{values_of}
 use Rattle.vk_claims.proofs.making.filled_by.Goals as goal
 
 pub fill-requires-clause-claim : goal.fill-requires-clause-claim
@@ -32,7 +32,7 @@ returns-in_ok-filled-in-Uniform c =
     c.in_ok-filled-in-Uniform.filled.values c.as_slice.ensures
     c.in_ok-filled-in-Uniform.ensures.plan c.in_ok-filled-in-Uniform.ensures.values in
     record {
-      plan = given.0 ∙ ap (λ k. plan_of (kind_in k) (length case.seats) numbers)
+      plan = given.0 ∙ ap (λ k. plan_of k (length case.seats) numbers)
           (sym c.in-Uniform.is);
       values = given.1 ∙ ap (λ k. values_of k (length case.seats) numbers case.bids)
           (sym c.in-Uniform.is);
