@@ -5,21 +5,17 @@ use vk_audit::say_verdict;
 use vk_cases::{Text, Tried};
 use vk_effect::{Said, bidder_dry_line, house_dry_line};
 use vk_io::Sink;
+use vk_judge::TwoReplies;
 use vk_verifier::BoardVerdict;
 use vk_wire::WireFault;
-use vk_words::{AttemptNames, ExtractNames};
 
 /// The files of an `extract`.
-const NAMES: ExtractNames<'static> = ExtractNames {
-    board: "board",
-    first: AttemptNames {
-        challenge: "challenge-0",
-        reply: "reply-0",
-    },
-    second: AttemptNames {
-        challenge: "challenge-1",
-        reply: "reply-1",
-    },
+const NAMES: TwoReplies<'static> = TwoReplies {
+    file: "board",
+    challenge1: "challenge-0",
+    reply1: "reply-0",
+    challenge2: "challenge-1",
+    reply2: "reply-1",
 };
 
 /// Verdicts on the second reply, each of which is a refusal.

@@ -1,5 +1,4 @@
 // What is asked for of an auction.
-use vk_words::AttemptNames;
 
 /// What is asked for in each lane.
 #[derive(Clone, Copy)]
@@ -31,14 +30,6 @@ impl Asked {
             Asked::Zeros => "reply-zeros",
             Asked::Ones => "reply-ones",
             Asked::Last => "reply-last",
-        }
-    }
-
-    /// The names of both.
-    pub fn attempt(self) -> AttemptNames<'static> {
-        AttemptNames {
-            challenge: self.name(),
-            reply: self.reply(),
         }
     }
 

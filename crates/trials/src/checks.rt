@@ -10,9 +10,8 @@ use vk_claim::{ClaimChecker, ClaimFinding, ClaimRefusal, ClaimVerdict, claim_ver
 use vk_claims::{ClaimCircuits, claim_judged, claim_refused};
 use vk_effect::Said;
 use vk_io::{OutsideErr, PieceShelf};
-use vk_judge::{Fault, Refusal, VErr};
+use vk_judge::{Fault, Refusal, TwoReplies, VErr};
 use vk_residue::NoMemory;
-use vk_words::{AttemptNames, ExtractNames};
 
 /// The most lanes that a claim file has.
 const MOST_LANES: u32 = 64;
@@ -27,33 +26,27 @@ pub fn push_case(bench: &mut Bench, text: &mut Text, case: &[u8]) -> Tried<()> {
 }
 
 /// The names, with a space between two.
-fn names_in(named: &[u8]) -> Tried<ExtractNames<'_>> {
-    let (file, attempts) = cut(named, b' ');
-    let (first, behind) = attempt_in(attempts)?;
-    let (second, _behind) = attempt_in(behind)?;
-    let board = text_in(file)?;
-    Ok(ExtractNames {
-        board,
-        first,
-        second,
+fn names_in(named: &[u8]) -> Tried<TwoReplies<'_>> {
+    let (file, behind) = cut(named, b' ');
+    let (challenge1, behind) = cut(behind, b' ');
+    let (reply1, behind) = cut(behind, b' ');
+    let (challenge2, behind) = cut(behind, b' ');
+    let (reply2, _behind) = cut(behind, b' ');
+    Ok(TwoReplies {
+        file: text_in(file)?,
+        challenge1: text_in(challenge1)?,
+        reply1: text_in(reply1)?,
+        challenge2: text_in(challenge2)?,
+        reply2: text_in(reply2)?,
     })
-}
-
-/// The names of a challenge and of the reply to it, and what stands behind them.
-fn attempt_in(named: &[u8]) -> Tried<(AttemptNames<'_>, &[u8])> {
-    let (challenge, behind) = cut(named, b' ');
-    let (reply, behind) = cut(behind, b' ');
-    let challenge = text_in(challenge)?;
-    let reply = text_in(reply)?;
-    Ok((AttemptNames { challenge, reply }, behind))
 }
 
 /// Tells what the checker gives and finds of these files: of the first lane how large the circuit
 /// is that it is held to, then how many lanes there are, and what is said of the finding.
-pub fn push_checked(bench: &mut Bench, text: &mut Text, names: &ExtractNames<'_>) -> Tried<()> {
-    text.put(names.board.as_bytes());
-    push_attempt(text, names.first);
-    push_attempt(text, names.second);
+pub fn push_checked(bench: &mut Bench, text: &mut Text, names: &TwoReplies<'_>) -> Tried<()> {
+    text.put(names.file.as_bytes());
+    push_attempt(text, names.challenge1, names.reply1);
+    push_attempt(text, names.challenge2, names.reply2);
     let (given, finding) = checked(bench.alloc, &mut bench.shelf, text, names)?;
     if verdict_on_first(bench.alloc, &mut bench.shelf, names)? != first_told(finding) {
         return Err(Unreplayed::NoCase);
@@ -69,10 +62,10 @@ pub fn push_checked(bench: &mut Bench, text: &mut Text, names: &ExtractNames<'_>
 fn verdict_on_first(
     alloc: Global,
     shelf: &mut PieceShelf,
-    names: &ExtractNames<'_>,
+    names: &TwoReplies<'_>,
 ) -> Tried<ClaimVerdict> {
-    let AttemptNames { challenge, reply } = names.first;
-    match claim_verdict(alloc, shelf, &ClaimCircuits, names.board, challenge, reply) {
+    let (file, challenge, reply) = (names.file, names.challenge1, names.reply1);
+    match claim_verdict(alloc, shelf, &ClaimCircuits, file, challenge, reply) {
         Ok(verdict) => Ok(verdict),
         Err(_refused) => Err(Unreplayed::NoCase),
     }
@@ -90,11 +83,11 @@ fn first_told(finding: ClaimFinding) -> ClaimVerdict {
 }
 
 /// The names of a challenge and of the reply to it.
-fn push_attempt(text: &mut Text, names: AttemptNames<'_>) {
+fn push_attempt(text: &mut Text, challenge: &str, reply: &str) {
     text.put(b" ");
-    text.put(names.challenge.as_bytes());
+    text.put(challenge.as_bytes());
     text.put(b" ");
-    text.put(names.reply.as_bytes());
+    text.put(reply.as_bytes());
 }
 
 /// How many lanes are given, and what is found then.
@@ -102,7 +95,7 @@ fn checked(
     alloc: Global,
     shelf: &mut PieceShelf,
     text: &mut Text,
-    names: &ExtractNames<'_>,
+    names: &TwoReplies<'_>,
 ) -> Tried<(u32, ClaimFinding)> {
     match begun(alloc, shelf, names) {
         Ok(checker) => {
@@ -117,22 +110,17 @@ fn checked(
 fn begun(
     alloc: Global,
     shelf: &mut PieceShelf,
-    names: &ExtractNames<'_>,
+    names: &TwoReplies<'_>,
 ) -> Result<ClaimChecker, VErr> {
-    let ExtractNames {
-        board,
-        first,
-        second,
-    } = *names;
     let checker = ClaimChecker::start(
         alloc,
         shelf,
         &ClaimCircuits,
-        board,
-        first.challenge,
-        first.reply,
-        second.challenge,
-        second.reply,
+        names.file,
+        names.challenge1,
+        names.reply1,
+        names.challenge2,
+        names.reply2,
     );
     checker
 }
@@ -189,7 +177,7 @@ fn push_shape(text: &mut Text, checker: &ClaimChecker)
 /// What is said of the finding, as of one reply that is accepted where both are.
 fn said_of(
     alloc: Global,
-    names: &ExtractNames<'_>,
+    names: &TwoReplies<'_>,
     finding: ClaimFinding,
 ) -> Result<Said, NoMemory> {
     let (second, verdict) = match finding {

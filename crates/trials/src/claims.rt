@@ -15,7 +15,6 @@ use vk_matching::{MatchingPlan, propose};
 use vk_plan::Plan;
 use vk_residue::{NoMemory, Residue};
 use vk_seq::Seq;
-use vk_words::ExtractNames;
 
 /// As many women as men, and how their ranks are sealed.
 #[derive(Clone, Copy)]
@@ -57,11 +56,13 @@ fn push_tried(bench: &mut Bench, text: &mut Text, couples: Couples, ranks: &[u64
 }
 
 /// The names of the claim's file, and of two replies that differ in each lane.
-fn names() -> ExtractNames<'static> {
-    ExtractNames {
-        board: "board",
-        first: Asked::Zeros.attempt(),
-        second: Asked::Ones.attempt(),
+fn names() -> TwoReplies<'static> {
+    TwoReplies {
+        file: "board",
+        challenge1: Asked::Zeros.name(),
+        reply1: Asked::Zeros.reply(),
+        challenge2: Asked::Ones.name(),
+        reply2: Asked::Ones.reply(),
     }
 }
 

@@ -19,7 +19,7 @@ use Rattle.vk_effect.specs.Effects.{SaidValue, puts}
 use Rattle.vk_effect.specs.NamedFiles.{missing_said, too_long_said}
 use Rattle.vk_audit.specs.Answers.{AnswerHolds, TellsAnswer}
 use Rattle.vk_audit.specs.Inputs.{CanBeRead, HoldsFiles, extract_inputs, verify_inputs}
-use Rattle.vk_audit.specs.Verdicts.{answer_said, name_of, unread_said, verified_words}
+use Rattle.vk_audit.specs.Verdicts.{PartNames, answer_said, name_in, name_of, unread_said}
 use Rattle.vk_audit.proofs.Telling.{tells}
 use Rattle.vk_audit.proofs.Inputs.{all_read, begun_unread, fault_of, first_unread, never_none, unread_found, unread_shown}
 
@@ -38,7 +38,7 @@ module _ {X : Type 0} (whole : Rest → Rest → Rest → X) (files : Files) (na
       board
 
   pub attempt_unread : (unread : Part × Bool)
-      → first_unread files (name_of (verified_words names)) verify_parts ≡ Some unread
+      → first_unread files (name_in names) verify_parts ≡ Some unread
       → of_attempt whole files names.board names.attempt.challenge names.attempt.reply
       ≡ Err (fault_of unread)
   attempt_unread unread is =
@@ -139,39 +139,36 @@ IsAlone {X} Settles Holds answer =
 
 -- an answer that names the first of these parts whose file can't be read, and holds where all can
 -- be
-module _ {X : Type 0} (files : Files) (names : ExtractWords) (parts : List Part) (Holds : X → Type 0) (answer : Result X VErr)
-    (unread : (unread : Part × Bool) → first_unread files (name_of names) parts ≡ Some unread → answer ≡ Err (fault_of unread)) where
+module _ {X : Type 0} (files : Files) (name : PartNames) (parts : List Part) (Holds : X → Type 0) (answer : Result X VErr)
+    (unread : (unread : Part × Bool) → first_unread files name parts ≡ Some unread → answer ≡ Err (fault_of unread)) where
   abbrev Answers : Result X VErr → Type 0
-  Answers = AnswerHolds files names (map (name_of names) parts) Holds
+  Answers = AnswerHolds files name (map name parts) Holds
 
-  answer_by : (AllByRecursion (CanBeRead files) (map (name_of names) parts) → Answers answer)
-      → (found : Option (Part × Bool)) → first_unread files (name_of names) parts ≡ found
-      → Answers answer
+  answer_by : (AllByRecursion (CanBeRead files) (map name parts) → Answers answer)
+      → (found : Option (Part × Bool)) → first_unread files name parts ≡ found → Answers answer
   answer_by read (Some (part, true)) is =
-      subst Answers (sym (unread (part, true) is))
-      (unread_shown files (name_of names) parts (part, true) is)
+      subst Answers (sym (unread (part, true) is)) (unread_shown files name parts (part, true) is)
   answer_by read (Some (part, false)) is =
-      subst Answers (sym (unread (part, false) is))
-      (unread_shown files (name_of names) parts (part, false) is)
-  answer_by read None is = read (all_read files (name_of names) parts is)
+      subst Answers (sym (unread (part, false) is)) (unread_shown files name parts (part, false) is)
+  answer_by read None is = read (all_read files name parts is)
 
-  pub answered_holds : (AllByRecursion (CanBeRead files) (map (name_of names) parts)
-      → Answers answer) → Answers answer
-  answered_holds read = answer_by read (first_unread files (name_of names) parts) refl
+  pub answered_holds : (AllByRecursion (CanBeRead files) (map name parts) → Answers answer)
+      → Answers answer
+  answered_holds read = answer_by read (first_unread files name parts) refl
 
   -- it is said like every answer that holds and is the only one of its kind
   module _ (said : X → SaidValue) where
     abbrev said_of : Result X VErr → SaidValue
-    said_of answered = answer_said said (unread_said names) answered
+    said_of answered = answer_said said (unread_said name) answered
 
     pub answered_settled : (Settles : Result X VErr → Type 0) → IsAlone Settles Holds answer
         → (other : Result X VErr) → Settles other → Answers other → said_of answer ≡ said_of other
     answered_settled Settles alone (Ok value) settles holds = ap said_of (alone value settles holds)
     answered_settled Settles alone (Err (Missing part)) settles holds =
-        let found = unread_found files (name_of names) parts (name_of names part) false holds in
+        let found = unread_found files name parts (name part) false holds in
         ap said_of (unread (found.0, false) found.1) ∙ ap missing_said found.2
     answered_settled Settles alone (Err (TooLong part)) settles holds =
-        let found = unread_found files (name_of names) parts (name_of names part) true holds in
+        let found = unread_found files name parts (name part) true holds in
         ap said_of (unread (found.0, true) found.1) ∙ ap too_long_said found.2
     answered_settled Settles alone (Err Failed) settles holds = absurd holds
     answered_settled Settles alone (Err NoMemory) settles holds = absurd holds
@@ -188,7 +185,7 @@ module _ {X : Type 0} (files : Files) (names : ExtractWords) (parts : List Part)
 pub verify_holds : {X : Type 0} (files : Files) (names : VerifyWords) (Holds : X → Type 0)
     (answer : Result X VErr)
     → ((unread : Part × Bool)
-    → first_unread files (name_of (verified_words names)) verify_parts ≡ Some unread
+    → first_unread files (name_in names) verify_parts ≡ Some unread
     → answer ≡ Err (fault_of unread))
     → (value : (board challenge reply : List ℕ) → X)
     → ((board : List ℕ) → IsHeldFile files names.board board
@@ -197,10 +194,10 @@ pub verify_holds : {X : Type 0} (files : Files) (names : VerifyWords) (Holds : X
     → ((board : List ℕ) → IsHeldFile files names.board board
     → (attempt : HeldAttempt files names.attempt.challenge names.attempt.reply)
     → Holds (value board attempt.challenge_bytes attempt.reply_bytes))
-    → AnswerHolds files (verified_words names) (verify_inputs names) Holds answer
+    → AnswerHolds files (name_in names) (verify_inputs names) Holds answer
 verify_holds files names Holds answer unread value read holds =
-    answered_holds files (verified_words names) verify_parts Holds answer unread (λ all.
-    subst (AnswerHolds files (verified_words names) (verify_inputs names) Holds)
+    answered_holds files (name_in names) verify_parts Holds answer unread (λ all.
+    subst (AnswerHolds files (name_in names) (verify_inputs names) Holds)
     (sym (read all.0.0 all.0.1 (attempt_held all)))
     (holds all.0.0 all.0.1 (attempt_held all)))
 
@@ -211,8 +208,8 @@ pub extract_holds : {X : Type 0} (files : Files) (names : ExtractWords) (Holds :
     → (value : HoldsFiles files names → X)
     → ((held : HoldsFiles files names) → answer ≡ Ok (value held))
     → ((held : HoldsFiles files names) → Holds (value held))
-    → AnswerHolds files names (extract_inputs names) Holds answer
+    → AnswerHolds files (name_of names) (extract_inputs names) Holds answer
 extract_holds files names Holds answer unread value read holds =
-    answered_holds files names extract_parts Holds answer unread (λ all.
-    subst (AnswerHolds files names (extract_inputs names) Holds) (sym (read (files_held all)))
-    (holds (files_held all)))
+    answered_holds files (name_of names) extract_parts Holds answer unread (λ all.
+    subst (AnswerHolds files (name_of names) (extract_inputs names) Holds)
+    (sym (read (files_held all))) (holds (files_held all)))

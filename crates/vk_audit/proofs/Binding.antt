@@ -304,7 +304,7 @@ only_held files names (Ok (Refused second refused)) holds zero_is =
     let held = holds.held in
     absurd (refused_never second refused held.file_bytes held.first.challenge_bytes
     held.first.reply_bytes held.second.challenge_bytes held.second.reply_bytes holds.holds
-    (status_accepted names.replies second refused (λ one. omega arith) (omega arith)))
+    (status_accepted (name_of names.replies) second refused (λ one. omega arith) (omega arith)))
 only_held files names (Ok Same) holds zero_is = absurd (omega arith)
 only_held files names (Ok (Malformed line)) holds zero_is = absurd (omega arith)
 only_held files names (Ok (NoSeal seat)) holds zero_is = absurd (omega arith)

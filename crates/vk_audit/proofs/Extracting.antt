@@ -65,13 +65,13 @@ module _ (files : Files) (names : ExtractWords) where
       held.second.challenge_bytes held.second.reply_bytes extraction settles has.holds)
 
 abbrev said_of : ExtractWords → Result Extraction VErr → SaidValue
-said_of names = answer_said (extraction_said names) (unread_said names)
+said_of names = answer_said (extraction_said names) (unread_said (name_of names))
 
 pub tells_extractions : TellsExtractions
 tells_extractions files names =
-    answered_tells files names extract_parts (HasExtraction files names) (answer files names)
-    (answer_unread files names) (extraction_said names) SettlesExtract (answer_alone files names)
-    (answer_holds files names)
+    answered_tells files (name_of names) extract_parts (HasExtraction files names)
+    (answer files names) (answer_unread files names) (extraction_said names) SettlesExtract
+    (answer_alone files names) (answer_holds files names)
 
 -- ---- the status and the text
 
@@ -128,14 +128,14 @@ only_said : (files : Files) (names : ExtractWords) (answered : Result Extraction
     → (said_of names answered).status ≢ 1 → (said_of names answered).status < 4
     → AcceptsTwoFiles files names
 only_said files names =
-    only_found files names (extract_inputs names) (HasExtraction files names)
-    (extraction_said names) refl (λ _. refl) (λ _. refl) (status_within names)
+    only_found files (name_of names) (extract_inputs names) (HasExtraction files names)
+    (extraction_said names) refl (λ _. refl) (λ _. refl) (status_within (name_of names))
     (AcceptsTwoFiles files names)
     (λ second refused holds other small.
     let held = holds.held in
     refused_never second refused held.file_bytes held.first.challenge_bytes held.first.reply_bytes
     held.second.challenge_bytes held.second.reply_bytes holds.holds
-    (status_accepted names second refused other small))
+    (status_accepted (name_of names) second refused other small))
     (λ clash holds. record { held = holds.held; two = holds.holds.0 })
     (λ found holds. record { held = holds.held; two = holds.holds.0 })
 
@@ -158,8 +158,8 @@ same_shown : (files : Files) (names : ExtractWords) (answered : Result Extractio
     → ExtractHolds files names answered
     → (said_of names answered).status ≡ 7 → AcceptsSameFiles files names
 same_shown files names =
-    only_same files names (extract_inputs names) (HasExtraction files names) (extraction_said names)
-    refl (λ _. refl) (λ _. refl) (status_within names)
+    only_same files (name_of names) (extract_inputs names) (HasExtraction files names)
+    (extraction_said names) refl (λ _. refl) (λ _. refl) (status_within (name_of names))
 
 pub tells_same_exactly : TellsSameExactly
 tells_same_exactly files names = record {

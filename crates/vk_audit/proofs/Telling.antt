@@ -7,11 +7,10 @@ use Rattle.vk_judge.specs.declared.answers.VErr.{VErr}
 use Rattle.vk_judge.specs.declared.answers.VErr.TheVariants.{Missing, TooLong, Failed, NoMemory}
 use Rattle.vk_bids.specs.declared.extraction.Extraction.{Extraction}
 use Rattle.vk_bids.specs.declared.extraction.Extraction.TheVariants.{Refused, Same, Clash, Bids}
-use Rattle.vk_words.specs.Names.{ExtractWords}
 use Rattle.vk_effect.specs.Effects.{SaidValue, puts}
 use Rattle.vk_audit.specs.Answers.{AnswerHolds, TellsAnswer}
 use Rattle.vk_audit.specs.Findings.{RefusesSecond}
-use Rattle.vk_audit.specs.Verdicts.{answer_said, unread_said}
+use Rattle.vk_audit.specs.Verdicts.{PartNames, answer_said, unread_said}
 
 pub tells : {Answer : Type 0} (Holds Settles : Answer → Type 0) (said : Answer → SaidValue)
     (answer : Answer) (taken : Option (List ℕ)) → Holds answer
@@ -34,30 +33,30 @@ second_refused only fails = λ same. fails.refuses (only fails.fault (sym fails.
 -- ---- by the status
 
 -- status 0 is said of no file that can't be read
-pub only_value : {X : Type 0} (files : Files) (names : ExtractWords) (inputs : List (List ℕ))
+pub only_value : {X : Type 0} (files : Files) (name : PartNames) (inputs : List (List ℕ))
     (Holds : X → Type 0) (said : X → SaidValue) (P : Type 0)
     → ((value : X) → Holds value → (said value).status ≡ 0 → P)
-    → (answered : Result X VErr) → AnswerHolds files names inputs Holds answered
-    → (answer_said said (unread_said names) answered).status ≡ 0 → P
-only_value files names inputs Holds said P by (Ok value) holds zero_is = by value holds zero_is
-only_value files names inputs Holds said P by (Err (Missing part)) holds zero_is =
+    → (answered : Result X VErr) → AnswerHolds files name inputs Holds answered
+    → (answer_said said (unread_said name) answered).status ≡ 0 → P
+only_value files name inputs Holds said P by (Ok value) holds zero_is = by value holds zero_is
+only_value files name inputs Holds said P by (Err (Missing part)) holds zero_is =
     absurd (omega arith)
-only_value files names inputs Holds said P by (Err (TooLong part)) holds zero_is =
+only_value files name inputs Holds said P by (Err (TooLong part)) holds zero_is =
     absurd (omega arith)
-only_value files names inputs Holds said P by (Err Failed) holds zero_is = absurd holds
-only_value files names inputs Holds said P by (Err NoMemory) holds zero_is = absurd holds
+only_value files name inputs Holds said P by (Err Failed) holds zero_is = absurd holds
+only_value files name inputs Holds said P by (Err NoMemory) holds zero_is = absurd holds
 
 -- what is said of an extraction has status 7 where the challenges are the same, 3 of a clash, 0 of
 -- what was found, and at most 4 of a refusal
-module _ {V X : Type 0} (files : Files) (names : ExtractWords) (inputs : List (List ℕ)) (Holds : Extraction V X → Type 0) (said : Extraction V X → SaidValue)
+module _ {V X : Type 0} (files : Files) (name : PartNames) (inputs : List (List ℕ)) (Holds : Extraction V X → Type 0) (said : Extraction V X → SaidValue)
     (same_is : (said Same).status ≡ 7) (clash_is : (clash : TwoOpeningsSeen) → (said (Clash clash)).status ≡ 3)
     (found_is : (found : X) → (said (Bids found)).status ≡ 0) (refused_is : (second : Bool) (verdict : V) → (said (Refused second verdict)).status ≤ 4) where
   abbrev status_of : Result (Extraction V X) VErr → ℕ
-  status_of answered = (answer_said said (unread_said names) answered).status
+  status_of answered = (answer_said said (unread_said name) answered).status
 
   -- so status 7 says that the challenges are the same
   pub only_same : (answered : Result (Extraction V X) VErr)
-      → AnswerHolds files names inputs Holds answered → status_of answered ≡ 7 → Holds Same
+      → AnswerHolds files name inputs Holds answered → status_of answered ≡ 7 → Holds Same
   only_same (Err (Missing part)) holds seven = absurd (omega arith)
   only_same (Err (TooLong part)) holds seven = absurd (omega arith)
   only_same (Err Failed) holds seven = absurd holds
@@ -77,7 +76,7 @@ module _ {V X : Type 0} (files : Files) (names : ExtractWords) (inputs : List (L
       → (said (Refused second verdict)).status < 4 → ⊥)
       → ((clash : TwoOpeningsSeen) → Holds (Clash clash) → P)
       → ((found : X) → Holds (Bids found) → P)
-      → (answered : Result (Extraction V X) VErr) → AnswerHolds files names inputs Holds answered
+      → (answered : Result (Extraction V X) VErr) → AnswerHolds files name inputs Holds answered
       → status_of answered ≢ 1 → status_of answered < 4 → P
   only_found P refused clashes finds (Err (Missing part)) holds other small = absurd (omega arith)
   only_found P refused clashes finds (Err (TooLong part)) holds other small = absurd (omega arith)

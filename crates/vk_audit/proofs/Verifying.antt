@@ -8,12 +8,12 @@ use Rattle.vk_judge.specs.declared.answers.VErr.{VErr}
 use Rattle.vk_verifier.specs.Verdicts.{verdict_at, verdict_of, verdict_on}
 use Rattle.vk_verifier.proofs.Verdicts.{verdict_holds, verdicts_exact}
 use Rattle.vk_judge.specs.HeldFiles.{HeldAttempt, IsHeldFile}
-use Rattle.vk_words.specs.Names.{ExtractWords, VerifyWords}
+use Rattle.vk_words.specs.Names.{VerifyWords}
 use Rattle.vk_effect.specs.Effects.{SaidValue}
 use Rattle.vk_audit.specs.Answers.{TellsVerdicts, VerifyHolds}
 use Rattle.vk_audit.specs.Inputs.{verify_inputs}
 use Rattle.vk_audit.specs.Statuses.{AcceptsFiles, HasVerdict, VerifiesExactly}
-use Rattle.vk_audit.specs.Verdicts.{answer_said, judged_said, name_of, unread_said, verified_words}
+use Rattle.vk_audit.specs.Verdicts.{PartNames, answer_said, judged_said, name_in, unread_said}
 use Rattle.vk_audit.proofs.Answered.{IsAlone, answered_tells, attempt_read, attempt_unread, verify_holds, verify_parts}
 use Rattle.vk_audit.proofs.Inputs.{fault_of, first_unread}
 use Rattle.vk_audit.proofs.Telling.{only_value}
@@ -21,26 +21,26 @@ use Rattle.vk_audit.proofs.Telling.{only_value}
 -- ---- verdicts
 
 -- only that a reply is accepted has a status below 4 other than 1
-pub status_accepted : (names : ExtractWords) (second : Bool) (answered : BoardVerdict)
-    → (judged_said names second answered).status ≢ 1
-    → (judged_said names second answered).status < 4 → answered ≡ verdict.Accepted
-status_accepted names second verdict.Accepted other small = refl
-status_accepted names second (verdict.Malformed file line) other small = absurd (omega arith)
-status_accepted names second verdict.Price other small = absurd (omega arith)
-status_accepted names second verdict.Winner other small = absurd (omega arith)
-status_accepted names second verdict.Lanes other small = absurd (omega arith)
-status_accepted names second (verdict.Wire lane wire fault) other small = absurd (omega arith)
-status_accepted names second (verdict.Row lane row) other small = absurd (omega arith)
+pub status_accepted : (name : PartNames) (second : Bool) (answered : BoardVerdict)
+    → (judged_said name second answered).status ≢ 1
+    → (judged_said name second answered).status < 4 → answered ≡ verdict.Accepted
+status_accepted name second verdict.Accepted other small = refl
+status_accepted name second (verdict.Malformed file line) other small = absurd (omega arith)
+status_accepted name second verdict.Price other small = absurd (omega arith)
+status_accepted name second verdict.Winner other small = absurd (omega arith)
+status_accepted name second verdict.Lanes other small = absurd (omega arith)
+status_accepted name second (verdict.Wire lane wire fault) other small = absurd (omega arith)
+status_accepted name second (verdict.Row lane row) other small = absurd (omega arith)
 
-pub status_within : (names : ExtractWords) (second : Bool) (answered : BoardVerdict)
-    → (judged_said names second answered).status ≤ 4
-status_within names second verdict.Accepted = omega arith
-status_within names second (verdict.Malformed file line) = omega arith
-status_within names second verdict.Price = omega arith
-status_within names second verdict.Winner = omega arith
-status_within names second verdict.Lanes = omega arith
-status_within names second (verdict.Wire lane wire fault) = omega arith
-status_within names second (verdict.Row lane row) = omega arith
+pub status_within : (name : PartNames) (second : Bool) (answered : BoardVerdict)
+    → (judged_said name second answered).status ≤ 4
+status_within name second verdict.Accepted = omega arith
+status_within name second (verdict.Malformed file line) = omega arith
+status_within name second verdict.Price = omega arith
+status_within name second verdict.Winner = omega arith
+status_within name second verdict.Lanes = omega arith
+status_within name second (verdict.Wire lane wire fault) = omega arith
+status_within name second (verdict.Row lane row) = omega arith
 
 -- ---- the answer
 
@@ -49,7 +49,7 @@ module _ (files : Files) (names : VerifyWords) where
   answer = verdict_on files names.board names.attempt.challenge names.attempt.reply
 
   answer_unread : (unread : Part × Bool)
-      → first_unread files (name_of (verified_words names)) verify_parts ≡ Some unread
+      → first_unread files (name_in names) verify_parts ≡ Some unread
       → answer ≡ Err (fault_of unread)
   unfolding verdict_on
   answer_unread unread is = attempt_unread verdict_at files names unread is
@@ -76,13 +76,12 @@ module _ (files : Files) (names : VerifyWords) where
       has.attempt.reply_bytes).1 has.holds)
 
 abbrev said_of : VerifyWords → Result BoardVerdict VErr → SaidValue
-said_of names = answer_said (judged_said (verified_words names) false)
-    (unread_said (verified_words names))
+said_of names = answer_said (judged_said (name_in names) false) (unread_said (name_in names))
 
 pub tells_verdicts : TellsVerdicts
 tells_verdicts files names =
-    answered_tells files (verified_words names) verify_parts (HasVerdict files names)
-    (answer files names) (answer_unread files names) (judged_said (verified_words names) false)
+    answered_tells files (name_in names) verify_parts (HasVerdict files names)
+    (answer files names) (answer_unread files names) (judged_said (name_in names) false)
     (λ _. Unit {0}) (answer_alone files names) (answer_holds files names)
 
 -- ---- status 0
@@ -91,10 +90,10 @@ only_accepted : (files : Files) (names : VerifyWords) (answered : Result BoardVe
     → VerifyHolds files names answered
     → (said_of names answered).status ≡ 0 → AcceptsFiles files names
 only_accepted files names =
-    only_value files (verified_words names) (verify_inputs names) (HasVerdict files names)
-    (judged_said (verified_words names) false) (AcceptsFiles files names)
+    only_value files (name_in names) (verify_inputs names) (HasVerdict files names)
+    (judged_said (name_in names) false) (AcceptsFiles files names)
     (λ answered holds zero_is. subst (HasVerdict files names)
-    (status_accepted (verified_words names) false answered (λ one. omega arith) (omega arith))
+    (status_accepted (name_in names) false answered (λ one. omega arith) (omega arith))
     holds)
 
 pub verifies_exactly : VerifiesExactly

@@ -24,7 +24,7 @@ use Rattle.vk_audit.specs.Findings.{ConfrontationHolds}
 use Rattle.vk_audit.specs.Inputs.{CanBeRead, HoldsFiles, IsMissing, IsTooLong, confront_inputs, extract_inputs, verify_inputs}
 use Rattle.vk_audit.specs.Reports.{report_said, reported_said, unreported_said}
 use Rattle.vk_audit.specs.Statuses.{HasExtraction, HasVerdict, HoldsOfSaid, PutsClash}
-use Rattle.vk_audit.specs.Verdicts.{answer_said, judged_said, name_of, unread_said, verified_words, verify_said}
+use Rattle.vk_audit.specs.Verdicts.{PartNames, answer_said, judged_said, name_in, name_of, unread_said, verify_said}
 
 -- an answer that holds is said; and where one holds that settles what is said, it is that one
 pub record TellsAnswer {Answer : Type 0} (Holds Settles : Answer → Type 0)
@@ -36,33 +36,31 @@ pub record TellsAnswer {Answer : Type 0} (Holds Settles : Answer → Type 0)
 
 -- what is said of named files holds of them; or of these names, in their order, the first whose
 -- file can't be read is that part's
-abbrev pub AnswerHolds : {X : Type 0} → Files → ExtractWords → List (List ℕ) → (X → Type 0)
+abbrev pub AnswerHolds : {X : Type 0} → Files → PartNames → List (List ℕ) → (X → Type 0)
     → Result X VErr → Type 0
-AnswerHolds files names inputs Holds (Ok value) = Holds value
-AnswerHolds files names inputs Holds (Err (Missing part)) =
-    IsMissing files inputs (name_of names part)
-AnswerHolds files names inputs Holds (Err (TooLong part)) =
-    IsTooLong files inputs (name_of names part)
-AnswerHolds files names inputs Holds (Err Failed) = ⊥
-AnswerHolds files names inputs Holds (Err NoMemory) = ⊥
+AnswerHolds files name inputs Holds (Ok value) = Holds value
+AnswerHolds files name inputs Holds (Err (Missing part)) = IsMissing files inputs (name part)
+AnswerHolds files name inputs Holds (Err (TooLong part)) = IsTooLong files inputs (name part)
+AnswerHolds files name inputs Holds (Err Failed) = ⊥
+AnswerHolds files name inputs Holds (Err NoMemory) = ⊥
 
 -- ---- `verify`
 
 abbrev pub VerifyHolds : Files → VerifyWords → Result BoardVerdict VErr → Type 0
-VerifyHolds files names = AnswerHolds files (verified_words names) (verify_inputs names)
+VerifyHolds files names = AnswerHolds files (name_in names) (verify_inputs names)
     (HasVerdict files names)
 
 -- every answer settles what is said
 abbrev pub TellsVerdict : Files → VerifyWords → ℕ → Option (List ℕ) → Option (List ℕ) → Type 0
 TellsVerdict files names status old new =
     TellsAnswer (VerifyHolds files names) (λ _. Unit {0})
-    (answer_said (judged_said (verified_words names) false)
-    (unread_said (verified_words names))) status old new
+    (answer_said (judged_said (name_in names) false) (unread_said (name_in names)))
+    status old new
 
 -- ---- `extract`
 
 abbrev pub ExtractHolds : Files → ExtractWords → Result Extraction VErr → Type 0
-ExtractHolds files names = AnswerHolds files names (extract_inputs names)
+ExtractHolds files names = AnswerHolds files (name_of names) (extract_inputs names)
     (HasExtraction files names)
 
 -- all but bids and a clash settles what is said, whatever is said of a refusal and whatever is kept
@@ -74,7 +72,7 @@ SettlesExtract (Err fault) = Unit {0}
 abbrev pub TellsExtraction : Files → ExtractWords → ℕ → Option (List ℕ) → Option (List ℕ) → Type 0
 TellsExtraction files names status old new =
     TellsAnswer (ExtractHolds files names) SettlesExtract
-    (answer_said (extraction_said names) (unread_said names)) status old new
+    (answer_said (extraction_said names) (unread_said (name_of names))) status old new
 
 -- ---- `confront`
 

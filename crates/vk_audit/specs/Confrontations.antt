@@ -11,12 +11,13 @@ use Rattle.vk_bids.specs.Texts.{clash_text}
 use Rattle.vk_words.specs.Names.{ConfrontWords}
 use Rattle.vk_effect.specs.Effects.{SaidValue}
 use Rattle.vk_effect.specs.NamedFiles.{malformed_said, missing_said, too_long_said}
-use Rattle.vk_audit.specs.Verdicts.{IsOfFile, answer_said, judged_said, same_said, unread_said}
+use Rattle.vk_audit.specs.Verdicts.{IsOfFile, answer_said, judged_said, name_of, same_said, unread_said}
 
 -- the verdict on a reply that isn't accepted, or what the secret comes to against two accepted
 -- replies
 abbrev pub confrontation_said : ConfrontWords → Confrontation → SaidValue
-confrontation_said names (Refused second verdict) = judged_said names.replies second verdict
+confrontation_said names (Refused second verdict) =
+    judged_said (name_of names.replies) second verdict
 confrontation_said names Same = same_said
 confrontation_said names (Malformed line) = malformed_said names.secret line
 confrontation_said names (NoSeal seat) = record { status = 8; text = no_seal_line seat }
@@ -45,7 +46,7 @@ IsOfNamedFile TooLongSecret = Unit {0}
 
 -- what is said of the first file that is missing or too long
 abbrev pub confront_unread_said : ConfrontWords → ConfrontErr → SaidValue
-confront_unread_said names (Unread fault) = unread_said names.replies fault
+confront_unread_said names (Unread fault) = unread_said (name_of names.replies) fault
 confront_unread_said names MissingSecret = missing_said names.secret
 confront_unread_said names TooLongSecret = too_long_said names.secret
 

@@ -17,17 +17,29 @@ use Rattle.vk_effect.specs.NamedFiles.{malformed_said, missing_said, refused_sai
 
 -- ---- names
 
--- the name of the second reply, or of the first
-abbrev pub reply_of : ExtractWords → Bool → List ℕ
-reply_of names second = if second then names.second.reply else names.first.reply
+-- the names of a command's files, each by the part that it stands for
+abbrev pub PartNames : Type 0
+PartNames = Part → List ℕ
 
--- the name of the file as it was given
-abbrev pub name_of : ExtractWords → Part → List ℕ
+-- the names of one reply's files, which is both the first and the second
+abbrev pub name_in : VerifyWords → PartNames
+name_in names Board = names.board
+name_in names Challenge = names.attempt.challenge
+name_in names Reply = names.attempt.reply
+name_in names SecondChallenge = names.attempt.challenge
+name_in names SecondReply = names.attempt.reply
+
+-- the names of two replies' files
+abbrev pub name_of : ExtractWords → PartNames
 name_of names Board = names.board
 name_of names Challenge = names.first.challenge
 name_of names Reply = names.first.reply
 name_of names SecondChallenge = names.second.challenge
 name_of names SecondReply = names.second.reply
+
+-- the second reply, or the first
+abbrev pub reply_part : Bool → Part
+reply_part second = if second then SecondReply else Reply
 
 -- ---- verdicts
 
@@ -48,15 +60,16 @@ row_cause lane row = codes "lane " +++ decimal lane +++ codes " row " +++ decima
 
 -- what is said of the verdict on the first reply, or on the second: refused is the board for its
 -- price and its winner, and that reply for all else
-abbrev pub judged_said : ExtractWords → Bool → BoardVerdict → SaidValue
-judged_said names second Accepted = record { status = 0; text = codes "accepted" +++ line_feed }
-judged_said names second (Malformed part line) = malformed_said (name_of names part) line
-judged_said names second Price = refused_said names.board (codes "price")
-judged_said names second Winner = refused_said names.board (codes "winner")
-judged_said names second Lanes = refused_said (reply_of names second) (codes "lanes")
-judged_said names second (Wire lane wire fault) =
-    refused_said (reply_of names second) (wire_cause lane wire fault)
-judged_said names second (Row lane row) = refused_said (reply_of names second) (row_cause lane row)
+abbrev pub judged_said : PartNames → Bool → BoardVerdict → SaidValue
+judged_said name second Accepted = record { status = 0; text = codes "accepted" +++ line_feed }
+judged_said name second (Malformed part line) = malformed_said (name part) line
+judged_said name second Price = refused_said (name Board) (codes "price")
+judged_said name second Winner = refused_said (name Board) (codes "winner")
+judged_said name second Lanes = refused_said (name (reply_part second)) (codes "lanes")
+judged_said name second (Wire lane wire fault) =
+    refused_said (name (reply_part second)) (wire_cause lane wire fault)
+judged_said name second (Row lane row) =
+    refused_said (name (reply_part second)) (row_cause lane row)
 
 -- both replies are accepted, and the challenges don't differ
 abbrev pub same_said : SaidValue
@@ -73,11 +86,11 @@ IsOfFile NoMemory = ⊥
 
 -- what is said of the first file that is missing or too long; of a failure of the outside and of
 -- want of memory nothing is said
-abbrev pub unread_said : ExtractWords → VErr → SaidValue
-unread_said names (Missing part) = missing_said (name_of names part)
-unread_said names (TooLong part) = too_long_said (name_of names part)
-unread_said names Failed = record { status = 4; text = [] }
-unread_said names NoMemory = record { status = 4; text = [] }
+abbrev pub unread_said : PartNames → VErr → SaidValue
+unread_said name (Missing part) = missing_said (name part)
+unread_said name (TooLong part) = too_long_said (name part)
+unread_said name Failed = record { status = 4; text = [] }
+unread_said name NoMemory = record { status = 4; text = [] }
 
 -- ---- `verify`
 
@@ -86,12 +99,8 @@ abbrev pub answer_said : {X E : Type 0} → (X → SaidValue) → (E → SaidVal
 answer_said of_value of_fault (Ok value) = of_value value
 answer_said of_value of_fault (Err fault) = of_fault fault
 
--- the one challenge and reply stand in both places
-abbrev pub verified_words : VerifyWords → ExtractWords
-verified_words names = record { board = names.board; first = names.attempt; second = names.attempt }
-
 -- what `verify` says
 abbrev pub verify_said : Files → VerifyWords → SaidValue
 verify_said files names =
-    answer_said (judged_said (verified_words names) false) (unread_said (verified_words names))
+    answer_said (judged_said (name_in names) false) (unread_said (name_in names))
     (verdict_on files names.board names.attempt.challenge names.attempt.reply)

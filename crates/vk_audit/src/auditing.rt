@@ -1,54 +1,29 @@
 //! An auditor's command over a shelf of files.
 
-ghost use Rattle.std.specs.Prelude.{◌≡◌, IfSome, IsErrOf};
+ghost use Rattle.std.specs.Prelude.{IfSome, IsErrOf};
 ghost use Rattle.vk_io.specs.Reads.{OnlyReads};
 ghost use Rattle.vk_lines.specs.Gives.{Gives};
 ghost use Rattle.vk_bids.specs.Confrontation.{fault_of};
 ghost use Rattle.vk_judge.specs.Wanting.{MemoryWasWanting};
 ghost use Rattle.vk_words.specs.Audits.{audit_seen};
-ghost use Rattle.vk_words.specs.Names.{confront_seen, extract_seen, verify_seen};
+ghost use Rattle.vk_words.specs.Names.{confront_seen, verify_seen};
 ghost use Rattle.vk_audit.specs.Audits.{Says, audit_said};
 ghost use Rattle.vk_audit.specs.Confrontations.{confrontation_in};
-ghost use Rattle.vk_audit.specs.Extractions.{replies_seen};
 ghost use Rattle.vk_audit.specs.Reports.{report_said};
-ghost use Rattle.vk_audit.specs.Verdicts.{verified_words, verify_said};
+ghost use Rattle.vk_audit.specs.Verdicts.{verify_said};
 
 use crate::confrontations::confront_answered;
 use crate::extractions::extract_answered;
 use crate::reports::{say_report, say_report_fault};
 use crate::verdicts::{say_verdict, unread};
 use std::alloc::Global;
-use vk_bids::{ConfrontErr, Confrontation, SecretAndReplies, TwoReplies, confront, extract};
+use vk_bids::{ConfrontErr, Confrontation, SecretAndReplies, confront, extract};
 use vk_effect::Said;
 use vk_io::{OutsideErr, Shelf};
-use vk_judge::VErr;
+use vk_judge::{OneReply, VErr};
 use vk_report::read_report;
 use vk_verifier::verdict;
-use vk_words::{AuditOrder, ConfrontNames, ExtractNames, VerifyNames};
-
-/// The names with those of the one challenge and reply in both places.
-pub fn verified_names<'a>(names: &VerifyNames<'a>) -> ExtractNames<'a>
-    ensures { extract_seen result ≡ verified_words (verify_seen names.now) }
-{
-    ExtractNames {
-        board: names.board,
-        first: names.attempt,
-        second: names.attempt,
-    }
-}
-
-/// The same names, as the library of bids asks for them.
-pub fn replies_of<'a>(names: &ExtractNames<'a>) -> TwoReplies<'a>
-    ensures { replies_seen result ≡ extract_seen names.now }
-{
-    TwoReplies {
-        file: names.board,
-        challenge1: names.first.challenge,
-        reply1: names.first.reply,
-        challenge2: names.second.challenge,
-        reply2: names.second.reply,
-    }
-}
+use vk_words::{AuditOrder, ConfrontNames};
 
 /// Reads the named files, and says what they come to.
 pub fn audit<S: Shelf>(
@@ -67,7 +42,7 @@ pub fn audit<S: Shelf>(
             Ok(said)
         }
         AuditOrder::Extract(names) => {
-            let answer = extract(alloc, shelf, &replies_of(names));
+            let answer = extract(alloc, shelf, names);
             let said = extract_answered(alloc, names, answer);
             said
         }
@@ -88,18 +63,16 @@ pub fn audit<S: Shelf>(
 fn say_verified<S: Shelf>(
     alloc: Global,
     shelf: &mut S,
-    names: &VerifyNames<'_>,
+    names: &OneReply<'_>,
 ) -> Result<Said, OutsideErr>
     ensures said { Says (S.held shelf.old) result
         (λ files. verify_said files (verify_seen names.now)) }
     ensures wanting { IsErrOf result OutsideErr.NoMemory → MemoryWasWanting }
     ensures shelf { OnlyReads S.held S.Shelf.faults OutsideErr.Failed result shelf.old shelf.new }
 {
-    let VerifyNames { board, attempt } = *names;
-    let names = verified_names(names);
-    let said = match verdict(alloc, shelf, board, attempt.challenge, attempt.reply) {
-        Ok(verdict) => say_verdict(alloc, &names, false, verdict)?,
-        Err(fault) => unread(alloc, &names, fault)?,
+    let said = match verdict(alloc, shelf, names.file, names.challenge, names.reply) {
+        Ok(verdict) => say_verdict(alloc, names, false, verdict)?,
+        Err(fault) => unread(alloc, names, fault)?,
     };
     Ok(said)
 }
@@ -132,7 +105,7 @@ fn confronted_in<S: Shelf>(
         shelf.old shelf.new }
 {
     let files = SecretAndReplies {
-        replies: replies_of(&names.replies),
+        replies: names.replies,
         secret: names.secret,
     };
     let answer = confront(alloc, shelf, &files);

@@ -11,23 +11,22 @@ ghost use Rattle.vk_bids.specs.Extraction.{Extraction as BoardExtraction};
 ghost use Rattle.vk_bids.specs.Texts.{clash_text};
 ghost use Rattle.vk_words.specs.Names.{extract_seen};
 ghost use Rattle.vk_audit.specs.Extractions.{extraction_said};
-ghost use Rattle.vk_audit.specs.Verdicts.{answer_said, unread_said};
+ghost use Rattle.vk_audit.specs.Verdicts.{answer_said, name_of, unread_said};
 
 use crate::verdicts::{same_challenge, say_verdict, unread};
 use std::alloc::Global;
 use vk_bids::{Extraction, clash_line, extraction_lines};
 use vk_effect::Said;
 use vk_io::OutsideErr;
-use vk_judge::VErr;
+use vk_judge::{TwoReplies, VErr};
 use vk_residue::NoMemory;
-use vk_words::ExtractNames;
 
 /// What is said of a reply that isn't accepted, or of what two accepted replies come to. A clash
 /// takes no memory.
 #[tactic(auto, using(vk_judge::specs::Wanting::memory_was_wanting))]
 pub fn say_extraction(
     alloc: Global,
-    names: &ExtractNames<'_>,
+    names: &TwoReplies<'_>,
     extraction: &Extraction,
 ) -> Result<Said, NoMemory>
     ensures said { IfOk result
@@ -54,14 +53,14 @@ pub fn say_extraction(
 /// is handed on.
 pub fn extract_answered(
     alloc: Global,
-    names: &ExtractNames<'_>,
+    names: &TwoReplies<'_>,
     answer: Result<Extraction, VErr>,
 ) -> Result<Said, OutsideErr>
     ensures said { (expected : Result BoardExtraction VErr)
         → Gives unread_file (λ extraction. extraction) answer expected
         → IfOk result (λ said. said
         ≡ answer_said (extraction_said (extract_seen names.now))
-        (unread_said (extract_seen names.now)) expected) }
+        (unread_said (name_of (extract_seen names.now))) expected) }
     ensures clash { (two : TwoOpeningsSeen) → answer ≡ Ok (Extraction.Clash two)
         → result ≡ Ok (record { status = 3; text = clash_text two }) }
     ensures wanting { IsErrOf result OutsideErr.NoMemory → MemoryWasWanting }

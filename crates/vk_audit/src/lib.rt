@@ -9,9 +9,9 @@ mod laws;
 mod reports;
 mod verdicts;
 
-pub use auditing::{audit, replies_of, verified_names};
+pub use auditing::audit;
 pub use confrontations::{confront_answered, confront_unread, say_confrontation};
 pub use extractions::{extract_answered, say_extraction};
 pub use laws::statuses_mean_what_the_files_are;
 pub use reports::{say_report, say_report_fault};
-pub use verdicts::{same_challenge, say_verdict, unread};
+pub use verdicts::{NamedParts, same_challenge, say_verdict, unread};

@@ -3,41 +3,62 @@
 ghost use Rattle.std.specs.Prelude.{◌≡◌, ℕ, IfOk, IsErrOf, IsOk, OnOk, Err};
 ghost use Rattle.vk_io.specs.Faults.{Causes};
 ghost use Rattle.vk_judge.specs.Wanting.{MemoryWasWanting};
-ghost use Rattle.vk_words.specs.Names.{extract_seen};
+ghost use Rattle.vk_words.specs.Names.{extract_seen, verify_seen};
 ghost use Rattle.vk_effect.specs.NamedFiles.{refused_said};
-ghost use Rattle.vk_audit.specs.Verdicts.{IsOfFile, fault_text, judged_said, name_of, reply_of, row_cause, same_said, unread_said, wire_cause};
+ghost use Rattle.vk_audit.specs.Verdicts.{IsOfFile, PartNames, fault_text, judged_said, name_in, name_of, reply_part, row_cause, same_said, unread_said, wire_cause};
 
 use std::alloc::Global;
 use vk_effect::{Said, missing, say_malformed, say_refused, too_long};
 use vk_io::OutsideErr;
-use vk_judge::{Part, VErr};
+use vk_judge::{OneReply, Part, TwoReplies, VErr};
 use vk_residue::NoMemory;
 use vk_text::ShortText;
 use vk_verifier::BoardVerdict;
 use vk_wire::WireFault;
-use vk_words::ExtractNames;
 
-/// The name of the second reply, or of the first.
-fn reply_of<'a>(names: &ExtractNames<'a>, second: bool) -> &'a str
-    ensures { result.now ≡ reply_of (extract_seen names.now) second }
-{
-    if second {
-        names.second.reply
-    } else {
-        names.first.reply
+/// The names of an order's files, each by the part that it stands for.
+pub trait NamedParts {
+    ghost name_of: { Self → PartNames };
+
+    /// The name of the file as it was given.
+    fn name_of(&self, part: Part) -> &str
+        ensures { result.now ≡ name_of self.now part };
+}
+
+impl NamedParts for OneReply<'_> {
+    ghost name_of = { λ names. name_in (verify_seen names) };
+
+    fn name_of(&self, part: Part) -> &str {
+        match part {
+            Part::Board => self.file,
+            Part::Challenge | Part::SecondChallenge => self.challenge,
+            Part::Reply | Part::SecondReply => self.reply,
+        }
     }
 }
 
-/// The name of the file as it was given.
-fn name_of<'a>(names: &ExtractNames<'a>, part: Part) -> &'a str
-    ensures { result.now ≡ name_of (extract_seen names.now) part }
+impl NamedParts for TwoReplies<'_> {
+    ghost name_of = { λ names. name_of (extract_seen names) };
+
+    fn name_of(&self, part: Part) -> &str {
+        match part {
+            Part::Board => self.file,
+            Part::Challenge => self.challenge1,
+            Part::Reply => self.reply1,
+            Part::SecondChallenge => self.challenge2,
+            Part::SecondReply => self.reply2,
+        }
+    }
+}
+
+/// The second reply, or the first.
+fn reply_part(second: bool) -> Part
+    ensures { result ≡ reply_part second }
 {
-    match part {
-        Part::Board => names.board,
-        Part::Challenge => names.first.challenge,
-        Part::Reply => names.first.reply,
-        Part::SecondChallenge => names.second.challenge,
-        Part::SecondReply => names.second.reply,
+    if second {
+        Part::SecondReply
+    } else {
+        Part::Reply
     }
 }
 
@@ -78,23 +99,23 @@ fn row_refused(alloc: Global, reply: &str, lane: u32, row: u32) -> Result<Said, 
     Ok(said)
 }
 
-/// What is said of the verdict on the first reply, or on the second. Of one reply alone both names
-/// are the same. That it is accepted takes no memory.
-pub fn say_verdict(
+/// What is said of the verdict on the first reply, or on the second. That it is accepted takes no
+/// memory.
+pub fn say_verdict<N: NamedParts>(
     alloc: Global,
-    names: &ExtractNames<'_>,
+    names: &N,
     second: bool,
     verdict: BoardVerdict,
 ) -> Result<Said, NoMemory>
     ensures said { IfOk result
-        (λ said. said ≡ judged_said (extract_seen names.now) second verdict) }
+        (λ said. said ≡ judged_said (N.name_of names.now) second verdict) }
     ensures accepted { verdict ≡ BoardVerdict.Accepted → IsOk result }
 {
-    let board = names.board;
-    let reply = reply_of(names, second);
+    let board = names.name_of(Part::Board);
+    let reply = names.name_of(reply_part(second));
     let said = match verdict {
         BoardVerdict::Accepted => Said::of_short(0, ShortText::new().word("accepted\n")),
-        BoardVerdict::Malformed { part, line } => say_malformed(alloc, name_of(names, part), line)?,
+        BoardVerdict::Malformed { part, line } => say_malformed(alloc, names.name_of(part), line)?,
         BoardVerdict::Price => say_refused(alloc, board, "price")?,
         BoardVerdict::Winner => say_refused(alloc, board, "winner")?,
         BoardVerdict::Lanes => say_refused(alloc, reply, "lanes")?,
@@ -114,16 +135,16 @@ pub fn same_challenge() -> Said
 /// What is said of the first file that is missing or too long, so that there is no verdict. A
 /// failure is handed on.
 #[tactic(auto, using(vk_judge::specs::Wanting::memory_was_wanting))]
-pub fn unread(alloc: Global, names: &ExtractNames<'_>, fault: VErr) -> Result<Said, OutsideErr>
-    ensures said { IfOk result (λ said. said ≡ unread_said (extract_seen names.now) fault) }
+pub fn unread<N: NamedParts>(alloc: Global, names: &N, fault: VErr) -> Result<Said, OutsideErr>
+    ensures said { IfOk result (λ said. said ≡ unread_said (N.name_of names.now) fault) }
     ensures file { OnOk result (IsOfFile fault) }
     ensures wanting { IsErrOf result OutsideErr.NoMemory → MemoryWasWanting }
     ensures causes { (before after : ℕ) → Causes {T = Unit {0}} VErr.Failed (Err fault) before after
         → Causes OutsideErr.Failed result before after }
 {
     let said = match fault {
-        VErr::Missing(part) => missing(alloc, name_of(names, part))?,
-        VErr::TooLong(part) => too_long(alloc, name_of(names, part))?,
+        VErr::Missing(part) => missing(alloc, names.name_of(part))?,
+        VErr::TooLong(part) => too_long(alloc, names.name_of(part))?,
         VErr::Failed => return Err(OutsideErr::Failed),
         VErr::NoMemory => return Err(OutsideErr::NoMemory),
     };

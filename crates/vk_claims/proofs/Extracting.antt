@@ -69,12 +69,12 @@ module _ (files : Files) (names : ExtractWords) where
       held.second.reply_bytes extraction settles has.holds)
 
 abbrev said_of : ExtractWords → Result ClaimExtraction VErr → SaidValue
-said_of names = answer_said (claim_extraction_said names) (unread_said names)
+said_of names = answer_said (claim_extraction_said names) (unread_said (name_of names))
 
 pub tells_claim_extractions : TellsClaimExtractions
 tells_claim_extractions files names =
-    answered_tells files names extract_parts (HasClaimExtraction files names) (answer files names)
-    (answer_unread files names) (claim_extraction_said names) SettlesExtract
+    answered_tells files (name_of names) extract_parts (HasClaimExtraction files names)
+    (answer files names) (answer_unread files names) (claim_extraction_said names) SettlesExtract
     (answer_alone files names) (answer_holds files names)
 
 -- ---- the status and the text
@@ -100,8 +100,8 @@ pub extracts_claims_exactly : ExtractsClaimsExactly
 extracts_claims_exactly files names taken = (
   said_of_accepted files names taken,
   λ found. let apart = told_apart (claim_extract_said files names).status found in
-      only_found files names (extract_inputs names) (HasClaimExtraction files names)
-      (claim_extraction_said names) refl (λ _. refl) (λ _. refl) (status_within names)
+      only_found files (name_of names) (extract_inputs names) (HasClaimExtraction files names)
+      (claim_extraction_said names) refl (λ _. refl) (λ _. refl) (status_within (name_of names))
       (AcceptsTwoClaims files names)
       (λ of_second refused holds. status_refused names of_second refused)
       (λ clash holds. record { held = holds.held; two = holds.holds.holds.0 })
@@ -114,8 +114,8 @@ extracts_claims_exactly files names taken = (
 pub tells_same_claims_exactly : TellsSameClaimsExactly
 tells_same_claims_exactly files names = record {
   only =
-      only_same files names (extract_inputs names) (HasClaimExtraction files names)
-      (claim_extraction_said names) refl (λ _. refl) (λ _. refl) (status_within names)
+      only_same files (name_of names) (extract_inputs names) (HasClaimExtraction files names)
+      (claim_extraction_said names) refl (λ _. refl) (λ _. refl) (status_within (name_of names))
       (answer files names) (answer_holds files names);
   always = λ same _ _. ap (λ answered. (said_of names answered).status)
       (answer_alone files names Same (λ found. found) same);

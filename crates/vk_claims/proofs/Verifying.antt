@@ -14,9 +14,9 @@ use Rattle.vk_claim.specs.declared.claim.ClaimRefusal.{ClaimRefusal}
 use Rattle.vk_claim.specs.declared.claim.ClaimRefusal.TheVariants.{Public}
 use Rattle.vk_claim.specs.Claims.{claim_at}
 use Rattle.vk_claim.specs.Verdicts.{ClaimJudged, claim_judged_in, claim_judged_on}
-use Rattle.vk_words.specs.Names.{ExtractWords, VerifyWords}
+use Rattle.vk_words.specs.Names.{VerifyWords}
 use Rattle.vk_audit.specs.Inputs.{verify_inputs}
-use Rattle.vk_audit.specs.Verdicts.{answer_said, name_of, unread_said, verified_words}
+use Rattle.vk_audit.specs.Verdicts.{PartNames, answer_said, name_in, unread_said}
 use Rattle.vk_audit.proofs.Answered.{IsAlone, answered_tells, attempt_read, attempt_unread, verify_holds, verify_parts}
 use Rattle.vk_audit.proofs.Inputs.{fault_of, first_unread}
 use Rattle.vk_audit.proofs.Telling.{only_value}
@@ -28,36 +28,36 @@ use Rattle.vk_claims.proofs.Findings.{judged_given, judged_shown}
 -- ---- statuses
 
 -- what is said of a refusal has the status 1 or 4
-refused_status : (names : ExtractWords) (second : Bool) (refused : Refusal ClaimRefusal)
-    → ((claim_refused_said names second refused).status ≡ 1)
-    ⊎ ((claim_refused_said names second refused).status ≡ 4)
-refused_status names second (refusal.Front Public) = inl refl
-refused_status names second (refusal.Fault (Malformed part line)) = inr refl
-refused_status names second (refusal.Fault Lanes) = inl refl
-refused_status names second (refusal.Fault (Wire lane wire fault)) = inl refl
-refused_status names second (refusal.Fault (Row lane row)) = inl refl
+refused_status : (name : PartNames) (second : Bool) (refused : Refusal ClaimRefusal)
+    → ((claim_refused_said name second refused).status ≡ 1)
+    ⊎ ((claim_refused_said name second refused).status ≡ 4)
+refused_status name second (refusal.Front Public) = inl refl
+refused_status name second (refusal.Fault (Malformed part line)) = inr refl
+refused_status name second (refusal.Fault Lanes) = inl refl
+refused_status name second (refusal.Fault (Wire lane wire fault)) = inl refl
+refused_status name second (refusal.Fault (Row lane row)) = inl refl
 
-pub status_refused : (names : ExtractWords) (second : Bool) (refused : Refusal ClaimRefusal)
-    → (claim_refused_said names second refused).status ≢ 1
-    → (claim_refused_said names second refused).status < 4 → ⊥
-status_refused names second refused other small = elim (refused_status names second refused) [
+pub status_refused : (name : PartNames) (second : Bool) (refused : Refusal ClaimRefusal)
+    → (claim_refused_said name second refused).status ≢ 1
+    → (claim_refused_said name second refused).status < 4 → ⊥
+status_refused name second refused other small = elim (refused_status name second refused) [
   | inl one ↦ absurd (other one)
   | inr four ↦ omega (arith, four, small)
 ]
 
-pub status_within : (names : ExtractWords) (second : Bool) (refused : Refusal ClaimRefusal)
-    → (claim_refused_said names second refused).status ≤ 4
-status_within names second refused = elim (refused_status names second refused) [
+pub status_within : (name : PartNames) (second : Bool) (refused : Refusal ClaimRefusal)
+    → (claim_refused_said name second refused).status ≤ 4
+status_within name second refused = elim (refused_status name second refused) [
   | inl one ↦ omega (arith, one)
   | inr four ↦ omega (arith, four)
 ]
 
 -- so status 0 is said only of a reply that is accepted
-zero_accepted : (names : ExtractWords) (P : ClaimJudged → Type 0) (judged : ClaimJudged) → P judged
-    → (claim_judged_said names judged).status ≡ 0 → P (Ok tt)
-zero_accepted names P (Ok done) holds zero_is = holds
-zero_accepted names P (Err refused) holds zero_is =
-    absurd (status_refused names false refused (λ one. omega (arith, one, zero_is))
+zero_accepted : (name : PartNames) (P : ClaimJudged → Type 0) (judged : ClaimJudged) → P judged
+    → (claim_judged_said name judged).status ≡ 0 → P (Ok tt)
+zero_accepted name P (Ok done) holds zero_is = holds
+zero_accepted name P (Err refused) holds zero_is =
+    absurd (status_refused name false refused (λ one. omega (arith, one, zero_is))
     (omega (arith, zero_is)))
 
 -- ---- the answer
@@ -68,7 +68,7 @@ module _ (files : Files) (names : VerifyWords) where
       names.attempt.reply
 
   answer_unread : (unread : Part × Bool)
-      → first_unread files (name_of (verified_words names)) verify_parts ≡ Some unread
+      → first_unread files (name_in names) verify_parts ≡ Some unread
       → answer ≡ Err (fault_of unread)
   unfolding claim_judged_on
   answer_unread unread is =
@@ -100,9 +100,9 @@ module _ (files : Files) (names : VerifyWords) where
 
 pub tells_claim_verdicts : TellsClaimVerdicts
 tells_claim_verdicts files names =
-    answered_tells files (verified_words names) verify_parts (HasClaimJudged files names)
+    answered_tells files (name_in names) verify_parts (HasClaimJudged files names)
     (answer files names) (answer_unread files names)
-    (claim_judged_said (verified_words names)) (λ _. Unit {0})
+    (claim_judged_said (name_in names)) (λ _. Unit {0})
     (answer_alone files names) (answer_holds files names)
 
 -- ---- status 0
@@ -110,12 +110,12 @@ tells_claim_verdicts files names =
 pub verifies_claims_exactly : VerifiesClaimsExactly
 verifies_claims_exactly files names = record {
   only =
-      only_value files (verified_words names) (verify_inputs names) (HasClaimJudged files names)
-      (claim_judged_said (verified_words names)) (AcceptsClaim files names)
-      (zero_accepted (verified_words names) (HasClaimJudged files names))
+      only_value files (name_in names) (verify_inputs names) (HasClaimJudged files names)
+      (claim_judged_said (name_in names)) (AcceptsClaim files names)
+      (zero_accepted (name_in names) (HasClaimJudged files names))
       (answer files names) (answer_holds files names);
   always = λ accepts _ _. ap (λ answered. (answer_said
-      (claim_judged_said (verified_words names)) (unread_said (verified_words names))
+      (claim_judged_said (name_in names)) (unread_said (name_in names))
       answered).status)
       (answer_alone files names (Ok tt) tt accepts);
 }

@@ -19,7 +19,7 @@ use Rattle.vk_words.specs.Names.{ExtractWords, VerifyWords}
 use Rattle.vk_audit.specs.Answers.{AnswerHolds, SettlesExtract, TellsAnswer}
 use Rattle.vk_audit.specs.Inputs.{HoldsFiles, extract_inputs, verify_inputs}
 use Rattle.vk_audit.specs.Statuses.{ComesExactly, FindsExactly, HoldsOfSaid, PutsFound, PutsText}
-use Rattle.vk_audit.specs.Verdicts.{answer_said, unread_said, verified_words}
+use Rattle.vk_audit.specs.Verdicts.{answer_said, name_in, name_of, unread_said}
 use Rattle.vk_claims.specs.Circuits.{admitted_plan, claimed}
 use Rattle.vk_claims.specs.Extractions.{claim_extraction_said, claim_extract_said}
 use Rattle.vk_claims.specs.Findings.{ClaimExtractionHolds, ClaimHolds}
@@ -67,13 +67,12 @@ IsClaimVerified files names status = ComesExactly 0 (AcceptsClaim files names) s
 -- every end says what holds, and every answer that holds is what is said
 abbrev pub ClaimVerifyHolds : Files → VerifyWords → Result ClaimJudged VErr → Type 0
 ClaimVerifyHolds files names =
-    AnswerHolds files (verified_words names) (verify_inputs names) (HasClaimJudged files names)
+    AnswerHolds files (name_in names) (verify_inputs names) (HasClaimJudged files names)
 
 abbrev pub TellsClaimVerdict : Files → VerifyWords → ℕ → Option (List ℕ) → Option (List ℕ) → Type 0
 TellsClaimVerdict files names status old new =
     TellsAnswer (ClaimVerifyHolds files names) (λ _. Unit {0})
-    (answer_said (claim_judged_said (verified_words names)) (unread_said (verified_words names)))
-    status old new
+    (answer_said (claim_judged_said (name_in names)) (unread_said (name_in names))) status old new
 
 -- ---- `claim-extract`
 
@@ -114,13 +113,13 @@ IsClaimExtracted two =
 -- clash
 abbrev pub ClaimExtractHolds : Files → ExtractWords → Result ClaimExtraction VErr → Type 0
 ClaimExtractHolds files names =
-    AnswerHolds files names (extract_inputs names) (HasClaimExtraction files names)
+    AnswerHolds files (name_of names) (extract_inputs names) (HasClaimExtraction files names)
 
 abbrev pub TellsClaimExtraction : Files → ExtractWords → ℕ → Option (List ℕ) → Option (List ℕ)
     → Type 0
 TellsClaimExtraction files names status old new =
     TellsAnswer (ClaimExtractHolds files names) SettlesExtract
-    (answer_said (claim_extraction_said names) (unread_said names)) status old new
+    (answer_said (claim_extraction_said names) (unread_said (name_of names))) status old new
 
 -- ---- the laws
 

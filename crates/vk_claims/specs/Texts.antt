@@ -14,7 +14,7 @@ use Rattle.vk_words.specs.Claims.{kind_word}
 use Rattle.vk_words.specs.Names.{ExtractWords}
 use Rattle.vk_effect.specs.Effects.{SaidValue}
 use Rattle.vk_effect.specs.Texts.{◌+++◌, line_feed}
-use Rattle.vk_audit.specs.Verdicts.{unread_said}
+use Rattle.vk_audit.specs.Verdicts.{name_of, unread_said}
 use Rattle.vk_claims.specs.Circuits.{admitted_plan}
 use Rattle.vk_claims.specs.Extractions.{claim_extraction_said}
 use Rattle.vk_sample_parts.specs.Texts.{found_text, same_count}
@@ -68,7 +68,7 @@ opened_said made (Clash two) = claim_extraction_said claim_names (Clash two)
 
 abbrev pub read_said : List ℕ → Result ClaimExtraction VErr → SaidValue
 read_said made (Ok extraction) = opened_said made extraction
-read_said made (Err fault) = unread_said claim_names fault
+read_said made (Err fault) = unread_said (name_of claim_names) fault
 
 -- what the files come to
 abbrev pub claim_read : Files → Result ClaimExtraction VErr

@@ -12,36 +12,28 @@ use crate::circuits::ClaimCircuits;
 use crate::extractions::claim_extracted;
 use crate::verdicts::claim_judged;
 use std::alloc::Global;
-use vk_audit::{replies_of, unread, verified_names};
+use vk_audit::unread;
 use vk_claim::{extract_claim, judge_claim};
 use vk_effect::Said;
 use vk_io::{OutsideErr, Shelf};
-use vk_judge::OneReply;
-use vk_words::{AttemptNames, ClaimOrder, ExtractNames, VerifyNames};
+use vk_judge::{OneReply, TwoReplies};
+use vk_words::ClaimOrder;
 
 /// What is said of a reply to a claim file.
 #[tactic(auto, using(vk_judge::specs::Wanting::memory_was_wanting))]
 fn claim_verified<S: Shelf>(
     alloc: Global,
     shelf: &mut S,
-    names: VerifyNames<'_>,
+    names: &OneReply<'_>,
 ) -> Result<Said, OutsideErr>
     ensures said { Says (S.held shelf.old) result
-        (λ files. claim_said files (Verify (verify_seen names.entry))) }
+        (λ files. claim_said files (Verify (verify_seen names.now))) }
     ensures wanting { IsErrOf result OutsideErr.NoMemory → MemoryWasWanting }
     ensures shelf { OnlyReads S.held S.Shelf.faults OutsideErr.Failed result shelf.old shelf.new }
 {
-    let VerifyNames { board, attempt } = names;
-    let names = verified_names(&names);
-    let AttemptNames { challenge, reply } = attempt;
-    let files = OneReply {
-        file: board,
-        challenge,
-        reply,
-    };
-    let said = match judge_claim(alloc, shelf, &ClaimCircuits, &files) {
-        Ok(answer) => claim_judged(alloc, &names, answer)?,
-        Err(fault) => unread(alloc, &names, fault)?,
+    let said = match judge_claim(alloc, shelf, &ClaimCircuits, names) {
+        Ok(answer) => claim_judged(alloc, names, answer)?,
+        Err(fault) => unread(alloc, names, fault)?,
     };
     Ok(said)
 }
@@ -50,16 +42,16 @@ fn claim_verified<S: Shelf>(
 fn claim_answered<S: Shelf>(
     alloc: Global,
     shelf: &mut S,
-    names: ExtractNames<'_>,
+    names: &TwoReplies<'_>,
 ) -> Result<Said, OutsideErr>
     ensures wanting { IsErrOf result OutsideErr.NoMemory → MemoryWasWanting }
     ensures shelf { OnlyReads S.held S.Shelf.faults OutsideErr.Failed result shelf.old shelf.new }
     ensures said { Says (S.held shelf.old) result
-        (λ files. claim_said files (Extract (extract_seen names.entry))) }
+        (λ files. claim_said files (Extract (extract_seen names.now))) }
 {
-    let said = match extract_claim(alloc, shelf, &ClaimCircuits, &replies_of(&names)) {
-        Ok(extraction) => claim_extracted(alloc, &names, &extraction)?,
-        Err(fault) => unread(alloc, &names, fault)?,
+    let said = match extract_claim(alloc, shelf, &ClaimCircuits, names) {
+        Ok(extraction) => claim_extracted(alloc, names, &extraction)?,
+        Err(fault) => unread(alloc, names, fault)?,
     };
     Ok(said)
 }
@@ -77,11 +69,11 @@ pub fn audit_claim<S: Shelf>(
 {
     match order {
         ClaimOrder::Verify(names) => {
-            let said = claim_verified(alloc, shelf, *names)?;
+            let said = claim_verified(alloc, shelf, names)?;
             Ok(said)
         }
         ClaimOrder::Extract(names) => {
-            let said = claim_answered(alloc, shelf, *names)?;
+            let said = claim_answered(alloc, shelf, names)?;
             Ok(said)
         }
     }

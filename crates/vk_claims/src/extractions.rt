@@ -14,15 +14,15 @@ use vk_audit::same_challenge;
 use vk_bids::{Extraction, clash_line};
 use vk_claim::{ClaimExtraction, claim_extraction_lines};
 use vk_effect::Said;
+use vk_judge::TwoReplies;
 use vk_residue::NoMemory;
-use vk_words::ExtractNames;
 
 /// What is said of a reply that is refused, or of what two accepted replies come to. A clash
 /// takes no memory.
 #[tactic(auto, using(vk_judge::specs::Wanting::memory_was_wanting))]
 pub fn claim_extracted(
     alloc: Global,
-    names: &ExtractNames<'_>,
+    names: &TwoReplies<'_>,
     extraction: &ClaimExtraction,
 ) -> Result<Said, NoMemory>
     ensures clash { (two : TwoOpeningsSeen) → extraction.now ≡ comes.Clash two

@@ -3,21 +3,17 @@ ghost use Rattle.std.specs.Prelude.{◌≡◌};
 ghost use Rattle.vk_words.specs.Names.{extract_seen};
 ghost use Rattle.vk_claims.specs.Texts.{claim_names};
 
-use vk_words::{AttemptNames, ExtractNames};
+use vk_judge::TwoReplies;
 
 /// The names of the files.
-pub fn claim_names() -> ExtractNames<'static>
+pub fn claim_names() -> TwoReplies<'static>
     ensures { extract_seen result ≡ claim_names }
 {
-    ExtractNames {
-        board: "claim-board",
-        first: AttemptNames {
-            challenge: "claim-challenge-1",
-            reply: "claim-reply-1",
-        },
-        second: AttemptNames {
-            challenge: "claim-challenge-2",
-            reply: "claim-reply-2",
-        },
+    TwoReplies {
+        file: "claim-board",
+        challenge1: "claim-challenge-1",
+        reply1: "claim-reply-1",
+        challenge2: "claim-challenge-2",
+        reply2: "claim-reply-2",
     }
 }

@@ -9,7 +9,7 @@ use crate::circuits::ClaimCircuits;
 use crate::names::claim_names;
 use crate::summary::say_read_back;
 use std::alloc::Global;
-use vk_audit::{replies_of, unread};
+use vk_audit::unread;
 use vk_claim::extract_claim;
 use vk_effect::Said;
 use vk_io::{OutsideErr, Shelf};
@@ -28,7 +28,7 @@ pub fn read_back<S: Shelf>(
     ensures shelf { OnlyReads S.held S.Shelf.faults OutsideErr.Failed result shelf.old shelf.new }
 {
     let names = claim_names();
-    let said = match extract_claim(alloc, shelf, &ClaimCircuits, &replies_of(&names)) {
+    let said = match extract_claim(alloc, shelf, &ClaimCircuits, &names) {
         Ok(extraction) => say_read_back(alloc, made, &extraction)?,
         Err(fault) => unread(alloc, &names, fault)?,
     };

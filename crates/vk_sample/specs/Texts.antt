@@ -16,7 +16,7 @@ use Rattle.vk_words.specs.Names.{ExtractWords}
 use Rattle.vk_effect.specs.Effects.{SaidValue}
 use Rattle.vk_effect.specs.Texts.{◌+++◌, line_feed}
 use Rattle.vk_audit.specs.Extractions.{extraction_said}
-use Rattle.vk_audit.specs.Verdicts.{unread_said}
+use Rattle.vk_audit.specs.Verdicts.{name_of, unread_said}
 use Rattle.vk_sample_parts.specs.Texts.{found_text, same_count}
 
 -- ---- the five files
@@ -79,7 +79,7 @@ opened_said made (Clash two) = extraction_said sample_names (Clash two)
 
 abbrev pub read_said : List ℕ → Result Extraction VErr → SaidValue
 read_said made (Ok extraction) = opened_said made extraction
-read_said made (Err fault) = unread_said sample_names fault
+read_said made (Err fault) = unread_said (name_of sample_names) fault
 
 -- the summary of files that both replies are accepted of, and that open the same bid of every seal
 -- in every lane

@@ -11,24 +11,20 @@ use std::alloc::Global;
 use vk_board::head_text;
 use vk_io::{OutsideErr, Shelf, write_files};
 use vk_job::Job;
+use vk_judge::TwoReplies;
 use vk_report::SampleCase;
 use vk_sample_parts::ProofFiles;
-use vk_words::{AttemptNames, ExtractNames};
 
 /// The names of the files.
-pub fn sample_names() -> ExtractNames<'static>
+pub fn sample_names() -> TwoReplies<'static>
     ensures { extract_seen result ≡ sample_names }
 {
-    ExtractNames {
-        board: "sample-board",
-        first: AttemptNames {
-            challenge: "sample-challenge-1",
-            reply: "sample-reply-1",
-        },
-        second: AttemptNames {
-            challenge: "sample-challenge-2",
-            reply: "sample-reply-2",
-        },
+    TwoReplies {
+        file: "sample-board",
+        challenge1: "sample-challenge-1",
+        reply1: "sample-reply-1",
+        challenge2: "sample-challenge-2",
+        reply2: "sample-reply-2",
     }
 }
 

@@ -13,7 +13,7 @@ ghost use Rattle.vk_sample.specs.Texts.{counts_text, made_text, opened_said, rea
 
 use crate::files::sample_names;
 use std::alloc::Global;
-use vk_audit::{replies_of, say_extraction, unread};
+use vk_audit::{say_extraction, unread};
 use vk_bids::{Extracted, Extraction, extract, sale_line};
 use vk_board::Head;
 use vk_effect::Said;
@@ -146,7 +146,7 @@ pub fn read_back<S: Shelf>(
     ensures shelf { OnlyReads S.held S.Shelf.faults OutsideErr.Failed result shelf.old shelf.new }
 {
     let names = sample_names();
-    let said = match extract(alloc, shelf, &replies_of(&names)) {
+    let said = match extract(alloc, shelf, &names) {
         Ok(extraction) => say_read_back(alloc, made, &extraction)?,
         Err(fault) => unread(alloc, &names, fault)?,
     };

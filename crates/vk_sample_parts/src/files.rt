@@ -4,15 +4,15 @@ ghost use Rattle.std.specs.Prelude.{◌≡◌, length};
 use std::alloc::Global;
 use vk_io::WrittenFiles;
 use vk_job::HonestProof;
+use vk_judge::TwoReplies;
 use vk_reply::{Challenge, challenge_text};
 use vk_residue::NoMemory;
-use vk_words::ExtractNames;
 
 /// The files that a proof behind that text of a head, two challenges and the replies to them are
 /// written to.
 #[derive(Drop)]
 pub struct ProofFiles<'a> {
-    pub names: ExtractNames<'a>,
+    pub names: TwoReplies<'a>,
     pub head: &'a [u8],
     pub proof: &'a HonestProof<'a>,
     pub first: &'a Challenge,
@@ -34,11 +34,11 @@ impl<'a> WrittenFiles for ProofFiles<'a> {
 
     fn name(&self, file: usize) -> &str {
         match file {
-            0 => self.names.board,
-            1 => self.names.first.challenge,
-            2 => self.names.first.reply,
-            3 => self.names.second.challenge,
-            _ => self.names.second.reply,
+            0 => self.names.file,
+            1 => self.names.challenge1,
+            2 => self.names.reply1,
+            3 => self.names.challenge2,
+            _ => self.names.reply2,
         }
     }
 

@@ -1,10 +1,9 @@
 -- The names of the files that a command reads.
 use Rattle.std.specs.Prelude.{ℕ, ◌+◌, ◌&&◌, nat_le, Bool, if◌then◌else◌, List, [], length, slice_index_or, Option, Some, None}
 use Rattle.vk_residue.specs.Steps.{◌>>?◌}
-use Rattle.vk_words.specs.declared.names.AttemptNames.{AttemptNames}
+use Rattle.vk_judge.specs.declared.named.OneReply.{OneReply}
+use Rattle.vk_judge.specs.declared.named.TwoReplies.{TwoReplies}
 use Rattle.vk_words.specs.declared.names.ConfrontNames.{ConfrontNames}
-use Rattle.vk_words.specs.declared.names.ExtractNames.{ExtractNames}
-use Rattle.vk_words.specs.declared.names.VerifyNames.{VerifyNames}
 
 -- a name has 1 to 255 bytes
 abbrev pub is_name : List ℕ → Bool
@@ -41,17 +40,17 @@ pub record ConfrontWords : Type 0 where
   pub replies : ExtractWords
   pub secret : List ℕ
 
-abbrev pub attempt_seen : AttemptNames → AttemptWords
-attempt_seen names = record { challenge = names.challenge.now; reply = names.reply.now }
+abbrev pub verify_seen : OneReply → VerifyWords
+verify_seen names = record {
+  board = names.file.now;
+  attempt = record { challenge = names.challenge.now; reply = names.reply.now };
+}
 
-abbrev pub verify_seen : VerifyNames → VerifyWords
-verify_seen names = record { board = names.board.now; attempt = attempt_seen names.attempt }
-
-abbrev pub extract_seen : ExtractNames → ExtractWords
+abbrev pub extract_seen : TwoReplies → ExtractWords
 extract_seen names = record {
-  board = names.board.now;
-  first = attempt_seen names.first;
-  second = attempt_seen names.second;
+  board = names.file.now;
+  first = record { challenge = names.challenge1.now; reply = names.reply1.now };
+  second = record { challenge = names.challenge2.now; reply = names.reply2.now };
 }
 
 abbrev pub confront_seen : ConfrontNames → ConfrontWords

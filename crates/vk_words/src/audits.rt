@@ -1,12 +1,13 @@
 //! What the commands are to do that audit a file by the replies to it.
 
-use crate::names::{ConfrontNames, ExtractNames, VerifyNames};
+use crate::names::ConfrontNames;
+use vk_judge::{OneReply, TwoReplies};
 
 /// What is to be audited: the names of the files.
 #[derive(Clone, Copy, Debug)]
 pub enum AuditOrder<'a> {
-    Verify(VerifyNames<'a>),
-    Extract(ExtractNames<'a>),
+    Verify(OneReply<'a>),
+    Extract(TwoReplies<'a>),
     Confront(ConfrontNames<'a>),
     /// The name of the board.
     Report(&'a str),
@@ -15,6 +16,6 @@ pub enum AuditOrder<'a> {
 /// What is to be done with a claim of any circuit in the place of a board: the names of the files.
 #[derive(Clone, Copy, Debug)]
 pub enum ClaimOrder<'a> {
-    Verify(VerifyNames<'a>),
-    Extract(ExtractNames<'a>),
+    Verify(OneReply<'a>),
+    Extract(TwoReplies<'a>),
 }

@@ -24,7 +24,7 @@ pub use command::{Command, command_of, house_order_of, may_ask_house};
 pub use hints::{Hint, hint_of};
 pub use kinds::WordKind;
 pub use laws::every_command_is_found_by_its_name;
-pub use names::{AttemptNames, ConfrontNames, ExtractNames, VerifyNames};
+pub use names::ConfrontNames;
 pub use orders::{HouseOrder, SealOrder};
 pub use script::{script_order, words_of_line, written_name};
 pub use usage::usage_line;

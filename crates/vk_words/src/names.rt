@@ -1,71 +1,47 @@
 //! The names of the files that a command reads.
 
-ghost use Rattle.std.specs.Prelude.{◌≡◌, ◌+◌, ◌^◌, ◌<◌, map, option_map, string_bytes};
-ghost use Rattle.vk_words.specs.Names.{attempt_seen, extract_seen, verify_seen, confront_seen, attempt_at, extract_in, verify_in, confront_in};
+ghost use Rattle.std.specs.Prelude.{◌≡◌, map, option_map, string_bytes};
+ghost use Rattle.vk_words.specs.Names.{extract_seen, verify_seen, confront_seen, extract_in, verify_in, confront_in};
 
 use crate::word::name;
-
-/// The names of the files of one challenge and the reply to it.
-#[derive(Clone, Copy, Debug)]
-pub struct AttemptNames<'a> {
-    pub challenge: &'a str,
-    pub reply: &'a str,
-}
-
-/// The names of the files of `verify`.
-#[derive(Clone, Copy, Debug)]
-pub struct VerifyNames<'a> {
-    pub board: &'a str,
-    pub attempt: AttemptNames<'a>,
-}
-
-/// The names of the files of `extract`.
-#[derive(Clone, Copy, Debug)]
-pub struct ExtractNames<'a> {
-    pub board: &'a str,
-    pub first: AttemptNames<'a>,
-    pub second: AttemptNames<'a>,
-}
+use vk_judge::{OneReply, TwoReplies};
 
 /// The names of the files of `confront`.
 #[derive(Clone, Copy, Debug)]
 pub struct ConfrontNames<'a> {
-    pub replies: ExtractNames<'a>,
+    pub replies: TwoReplies<'a>,
     pub secret: &'a str,
 }
 
-/// The names of a challenge, at that place, and of the reply behind it.
-#[tactic(auto, unfolding(crate::specs::Names::attempt_at))]
-pub fn attempt_names(words: &[String], place: usize) -> Option<AttemptNames<'_>>
-    requires { place + 1 < 2 ^ 64 }
-    ensures { option_map attempt_seen result ≡ attempt_at (map string_bytes words.now) place }
-{
-    let challenge = name(words, place)?;
-    let reply = name(words, place + 1)?;
-    Some(AttemptNames { challenge, reply })
-}
-
 /// The names of a `verify`.
-#[tactic(auto, unfolding(crate::specs::Names::verify_in))]
-pub fn verify_names(words: &[String]) -> Option<VerifyNames<'_>>
+#[tactic(auto, unfolding(crate::specs::Names::verify_in, crate::specs::Names::attempt_at))]
+pub fn verify_names(words: &[String]) -> Option<OneReply<'_>>
     ensures { option_map verify_seen result ≡ verify_in (map string_bytes words.now) }
 {
-    let board = name(words, 1)?;
-    let attempt = attempt_names(words, 2)?;
-    Some(VerifyNames { board, attempt })
+    let file = name(words, 1)?;
+    let challenge = name(words, 2)?;
+    let reply = name(words, 3)?;
+    Some(OneReply {
+        file,
+        challenge,
+        reply,
+    })
 }
 
 /// The names of an `extract`, or of a `confront` without its last.
-#[tactic(auto, unfolding(crate::specs::Names::extract_in))]
-pub fn extract_names(words: &[String]) -> Option<ExtractNames<'_>>
+#[tactic(auto, unfolding(crate::specs::Names::extract_in, crate::specs::Names::attempt_at))]
+pub fn extract_names(words: &[String]) -> Option<TwoReplies<'_>>
     ensures { option_map extract_seen result ≡ extract_in (map string_bytes words.now) }
 {
     let names = verify_names(words)?;
-    let second = attempt_names(words, 4)?;
-    Some(ExtractNames {
-        board: names.board,
-        first: names.attempt,
-        second,
+    let challenge2 = name(words, 4)?;
+    let reply2 = name(words, 5)?;
+    Some(TwoReplies {
+        file: names.file,
+        challenge1: names.challenge,
+        reply1: names.reply,
+        challenge2,
+        reply2,
     })
 }
 

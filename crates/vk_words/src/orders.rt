@@ -4,7 +4,6 @@ ghost use Rattle.std.specs.Prelude.{◌≡◌, ◌<◌, ◌≤◌, IfSome, lengt
 ghost use Rattle.vk_residue.specs.Limits.{IsSize};
 ghost use Rattle.vk_words.specs.Orders.{IsHouseOrder, IsSealOrder, announced_on, house_by, house_seen, id_at, seal_in, seal_seen, seed_at};
 
-use crate::names::{AttemptNames, attempt_names};
 use crate::table::Verb;
 use crate::word::{count, name, word};
 use vk_lines::{read_decimal, read_hex16, read_hex32};
@@ -132,6 +131,7 @@ fn announce_order(id: [u8; 16], width: u32, lanes: u32, words: &[String]) -> Opt
 }
 
 /// A command of the house. `None` of the others.
+#[tactic(auto, unfolding(crate::specs::Names::attempt_at))]
 pub fn house_order(verb: Verb, words: &[String]) -> Option<HouseOrder<'_>>
     ensures value { option_map house_seen result ≡ house_by verb (map string_bytes words.now) }
     ensures limits { IfSome result IsHouseOrder }
@@ -155,7 +155,8 @@ pub fn house_order(verb: Verb, words: &[String]) -> Option<HouseOrder<'_>>
             Some(HouseOrder::Prove { id, seed, board })
         }
         Verb::Answer => {
-            let AttemptNames { challenge, reply } = attempt_names(words, 2)?;
+            let challenge = name(words, 2)?;
+            let reply = name(words, 3)?;
             if challenge == reply {
                 return None;
             }
