@@ -98,8 +98,7 @@ impl MemKeeper {
             (self.new ≡ record self.old { calls = fails_too call self.old.calls }) }
         ensures refused { OnErr result (self.new ≡ self.old) }
     {
-        self.calls.name(call)?;
-        Ok(())
+        self.calls.name(call)
     }
 
     /// Counts one call of the trait. Errs where it is one that is to fail, and changes no auction.
