@@ -9,9 +9,10 @@ ghost use Rattle.page.specs.Shown.{BeginsWith, IsBare, shown_bytes};
 
 use crate::folder::{NamedBytes, shelf_of};
 use crate::room::{WantedName, bare, show};
-use crate::sure::{SureKeeper, SureShelf, SureSink};
+use crate::sure::{SureKeeper, SureSink};
 use std::alloc::Global;
 use vk_app::run;
+use vk_io::SureShelf;
 use vk_residue::NoMemory;
 use vk_words::words_of_line;
 

@@ -3,9 +3,9 @@
 ghost use Rattle.std.specs.Prelude.{◌≡◌, IfOk, OnOk};
 ghost use Rattle.page.specs.Handed.{handed_files, with_handed};
 
-use crate::sure::SureShelf;
 use std::alloc::Global;
 use std::str::from_utf8;
+use vk_io::SureShelf;
 use vk_residue::NoMemory;
 
 /// A file that lies in the folder: its name, and what it holds.

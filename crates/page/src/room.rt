@@ -3,8 +3,8 @@
 ghost use Rattle.std.specs.Prelude.{◌≡◌, ◌≤◌, length, option_copied};
 ghost use Rattle.page.specs.Shown.{IsBare, Puts, held_under, shown_bytes, sized_bytes, wanted_bytes};
 
-use crate::sure::SureShelf;
 use std::str::from_utf8;
+use vk_io::SureShelf;
 
 /// The name of a file that is wanted behind the command.
 #[repr(C)]

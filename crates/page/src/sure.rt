@@ -1,91 +1,13 @@
-//! What a run of the page works on: files, a house and a text in memory, of which no call fails.
-//! Their counts of faults stay 0, so no run over them ends with the status of a failure.
+//! What a run of the page works on beside a `SureShelf`: a house and a text in memory, of which no
+//! call fails. Their counts of faults stay 0, so no run over them ends with the status of a failure.
 
-ghost use Rattle.std.specs.Prelude.{◌≡◌, [], IfOk, OnOk, option_copied};
+ghost use Rattle.std.specs.Prelude.{◌≡◌, [], IfOk};
 ghost use Rattle.std.specs.FinMap as map;
 
 use std::alloc::Global;
 use std::marker::Model;
-use vk_io::{MemShelf, MemSink, OutsideErr, Shelf, Sink};
+use vk_io::{MemSink, OutsideErr, Sink};
 use vk_keeper::{Auction, Keeper, MemKeeper};
-use vk_residue::NoMemory;
-
-/// Files in memory. No call fails, but for want of memory.
-#[derive(Drop)]
-pub struct SureShelf {
-    files: MemShelf,
-}
-
-impl Model for SureShelf {
-    ghost use Rattle.std.specs.Prelude.{◌≡◌, []};
-    ghost use Rattle.vk_io.specs.Memory.{MemoryFiles, files_code};
-
-    ghost Value = { MemoryFiles };
-
-    ghost coded = { files_code };
-
-    ghost view = { λ s. s.files };
-
-    ghost invariant = { λ s. s.files.calls.failing ≡ [] };
-}
-
-impl SureShelf {
-    /// No files. What is held later is made with this allocator.
-    pub fn new(alloc: Global) -> SureShelf
-        ensures { result.files ≡ map.empty }
-    {
-        SureShelf {
-            files: MemShelf::new(alloc),
-        }
-    }
-
-    /// Makes the named file hold these bytes. Errs for want of memory alone.
-    pub fn put_file(&mut self, name: &str, bytes: &[u8]) -> Result<(), NoMemory>
-        ensures { OnOk result (self.new.files ≡ map.insert self.old.files name.now bytes.now) }
-    {
-        self.files.put_file(name, bytes)?;
-        Ok(())
-    }
-
-    /// What the named file holds. None where the name isn't held.
-    pub fn file(&self, name: &str) -> Option<&[u8]>
-        ensures { option_copied result ≡ map.get self.now.files name.now }
-    {
-        self.files.file(name)
-    }
-}
-
-impl Shelf for SureShelf {
-    ghost use Rattle.std.specs.Prelude.{Some};
-
-    ghost held = { λ s. Some s.files };
-
-    ghost faults = { λ _. 0 };
-
-    ghost wants = { λ s. s.wants };
-
-    ghost length_gives = { λ _ _ _ _. Unit {0} };
-
-    fn length(&mut self, name: &str) -> Result<Option<u64>, OutsideErr> {
-        let length = self.files.length(name)?;
-        Ok(length)
-    }
-
-    fn read_at(&mut self, name: &str, at: u64, into: &mut [u8]) -> Result<usize, OutsideErr> {
-        let count = self.files.read_at(name, at, into)?;
-        Ok(count)
-    }
-
-    fn create(&mut self, name: &str) -> Result<(), OutsideErr> {
-        self.files.create(name)?;
-        Ok(())
-    }
-
-    fn append(&mut self, name: &str, piece: &[u8]) -> Result<(), OutsideErr> {
-        self.files.append(name, piece)?;
-        Ok(())
-    }
-}
 
 /// Auctions in memory. No call fails, but for want of memory.
 #[derive(Drop)]
@@ -130,13 +52,11 @@ impl Keeper for SureKeeper {
     ghost get_gives = { λ old id answer _. IfOk answer (λ found. found ≡ map.get old.ledger id) };
 
     fn get(&mut self, id: &[u8; 16]) -> Result<Option<Auction>, OutsideErr> {
-        let found = self.auctions.get(id)?;
-        Ok(found)
+        self.auctions.get(id)
     }
 
     fn put(&mut self, auction: Auction) -> Result<(), OutsideErr> {
-        self.auctions.put(auction)?;
-        Ok(())
+        self.auctions.put(auction)
     }
 }
 
@@ -185,7 +105,6 @@ impl Sink for SureSink {
     ghost wants = { λ s. s.wants };
 
     fn put(&mut self, piece: &[u8]) -> Result<(), OutsideErr> {
-        self.text.put(piece)?;
-        Ok(())
+        self.text.put(piece)
     }
 }

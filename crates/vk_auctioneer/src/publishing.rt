@@ -314,11 +314,11 @@ impl<'a> WrittenFiles for ReplyFile<'a> {
     }
 
     fn pieces(&self, _file: usize) -> usize {
-        self.job.reply_pieces(self.challenge)
+        self.job.proof().reply_pieces(self.challenge)
     }
 
     fn piece(&self, alloc: Global, _file: usize, index: usize) -> Result<Vec<u8>, NoMemory> {
-        let piece = self.job.reply_piece(alloc, self.challenge, index)?;
+        let piece = self.job.proof().reply_piece(alloc, self.challenge, index)?;
         Ok(piece)
     }
 }

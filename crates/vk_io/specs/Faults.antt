@@ -1,5 +1,5 @@
 -- Counts of faults, and the calls of an object in memory that is told which of them fail.
-use Rattle.std.specs.Prelude.{◌≡◌, ◌≢◌, ℕ, ◌+◌, ◌-◌, ◌^◌, ◌≤◌, ◌==◌, min, List, [], ◌∷◌, ◌++◌, Bool, Result, Ok, Err, if◌then◌else◌}
+use Rattle.std.specs.Prelude.{◌≡◌, ◌≢◌, ℕ, ◌+◌, ◌-◌, ◌^◌, ◌≤◌, ◌==◌, ◌↔◌, min, List, [], ◌∷◌, ◌++◌, Bool, IsTrue, IsErrOf, Result, Ok, Err, if◌then◌else◌}
 use Rattle.std.specs.List.{list_any}
 use Rattle.vk_io.specs.declared.errors.OutsideErr.{OutsideErr}
 use Rattle.vk_io.specs.declared.errors.OutsideErr.TheVariants.{Failed, NoMemory}
@@ -48,3 +48,9 @@ after_call calls = record calls {
   made = one_more calls.made;
   faults = if fails_next calls then one_more calls.faults else calls.faults;
 }
+
+-- a call that answers so was counted: it failed where it was to fail, and nowhere else
+pub record CountsCall {T : Type 0} (result : Result T OutsideErr) (old new : Calls) : Type 0 where
+  pub fails : IsErrOf result Failed ↔ IsTrue (fails_next old)
+  pub counted : new ≡ after_call old
+  pub causes : Causes Failed result old.faults new.faults

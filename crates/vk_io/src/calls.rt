@@ -1,5 +1,5 @@
-ghost use Rattle.std.specs.Prelude.{◌≡◌, ◌↔◌, [], OnOk, OnErr, IfErr, IsErr, IsTrue};
-ghost use Rattle.vk_io.specs.Faults.{Causes, fails_next, fails_too, after_call};
+ghost use Rattle.std.specs.Prelude.{◌≡◌, [], OnOk, OnErr, IfErr};
+ghost use Rattle.vk_io.specs.Faults.{CountsCall, fails_next, fails_too, after_call};
 
 use crate::errors::OutsideErr;
 use std::alloc::Global;
@@ -46,10 +46,8 @@ impl CallCount {
 
     /// Begins one call, which is counted. Errs where it is one that is to fail.
     pub fn begin(&mut self) -> Result<(), OutsideErr>
-        ensures fails { IsErr result ↔ IsTrue (fails_next self.old) }
         ensures outside { IfErr result (λ refusal. refusal ≡ OutsideErr.Failed) }
-        ensures counted { self.new ≡ after_call self.old }
-        ensures causes { Causes OutsideErr.Failed result self.old.faults self.new.faults }
+        ensures counted { CountsCall result self.old self.new }
     {
         if self.count() {
             return Err(OutsideErr::Failed);

@@ -12,6 +12,7 @@ mod named;
 mod piece_shelf;
 mod shelf;
 mod sink;
+mod sure_shelf;
 mod writing;
 
 pub use calls::CallCount;
@@ -22,4 +23,5 @@ pub use mem_sink::MemSink;
 pub use piece_shelf::PieceShelf;
 pub use shelf::Shelf;
 pub use sink::Sink;
+pub use sure_shelf::SureShelf;
 pub use writing::{FileText, WrittenFiles, write_files};

@@ -1,6 +1,6 @@
-ghost use Rattle.std.specs.Prelude.{◌≡◌, ℕ, ◌+◌, ◌≤◌, ◌++◌, ◌↔◌, [], ◌∷◌, length, drop, Option, Some, Ok, Err, option_map, option_copied, IfSome, IfOk, OnOk, OnErr, IsErrOf, MatchResult, IsTrue, if◌then◌else◌};
+ghost use Rattle.std.specs.Prelude.{◌≡◌, ℕ, ◌+◌, ◌≤◌, ◌++◌, [], ◌∷◌, length, drop, Option, Some, Ok, Err, option_map, option_copied, IfSome, IfOk, OnOk, OnErr, MatchResult, if◌then◌else◌};
 ghost use Rattle.std.specs.FinMap as map;
-ghost use Rattle.vk_io.specs.Faults.{Causes, fails_next, fails_too, after_call};
+ghost use Rattle.vk_io.specs.Faults.{Causes, CountsCall, fails_next, fails_too};
 ghost use Rattle.vk_io.specs.Files.{bytes_of, part_of, Modelled, Creates, Appends};
 ghost use Rattle.vk_io.specs.declared.errors.OutsideErr.TheVariants.{Failed};
 
@@ -82,8 +82,7 @@ impl MemShelf {
             (self.new ≡ record self.old { calls = fails_too call self.old.calls }) }
         ensures refused { OnErr result (self.new ≡ self.old) }
     {
-        self.calls.name(call)?;
-        Ok(())
+        self.calls.name(call)
     }
 }
 
@@ -102,9 +101,7 @@ impl Shelf for MemShelf {
         ensures exact { result ≡ (if fails_next self.old.calls then Err Failed
             else Ok (option_map length (map.get self.old.files name.now))) }
         ensures files { self.new.files ≡ self.old.files }
-        ensures counted { self.new.calls ≡ after_call self.old.calls }
-        ensures causes { Causes OutsideErr.Failed result self.old.calls.faults
-            self.new.calls.faults }
+        ensures counted { CountsCall result self.old.calls self.new.calls }
         ensures wants { Causes OutsideErr.NoMemory result self.old.wants self.new.wants }
     {
         self.calls.begin()?;
@@ -118,9 +115,7 @@ impl Shelf for MemShelf {
             ≡ part_of (bytes_of self.old.files name.now) at (length into.old) ++ drop n into.old) }
         ensures unread { OnErr result (into.new ≡ into.old) }
         ensures files { self.new.files ≡ self.old.files }
-        ensures counted { self.new.calls ≡ after_call self.old.calls }
-        ensures causes { Causes OutsideErr.Failed result self.old.calls.faults
-            self.new.calls.faults }
+        ensures counted { CountsCall result self.old.calls self.new.calls }
         ensures wants { Causes OutsideErr.NoMemory result self.old.wants self.new.wants }
     {
         self.calls.begin()?;
@@ -128,12 +123,9 @@ impl Shelf for MemShelf {
     }
 
     fn create(&mut self, name: &str) -> Result<(), OutsideErr>
-        ensures fails { IsErrOf result OutsideErr.Failed ↔ IsTrue (fails_next self.old.calls) }
         ensures created { OnOk result (self.new.files ≡ map.insert self.old.files name.now []) }
         ensures refused { OnErr result (self.new.files ≡ self.old.files) }
-        ensures counted { self.new.calls ≡ after_call self.old.calls }
-        ensures causes { Causes OutsideErr.Failed result self.old.calls.faults
-            self.new.calls.faults }
+        ensures counted { CountsCall result self.old.calls self.new.calls }
         ensures wants { Causes OutsideErr.NoMemory result self.old.wants self.new.wants }
     {
         self.calls.begin()?;
@@ -142,14 +134,11 @@ impl Shelf for MemShelf {
     }
 
     fn append(&mut self, name: &str, piece: &[u8]) -> Result<(), OutsideErr>
-        ensures fails { IsErrOf result OutsideErr.Failed ↔ IsTrue (fails_next self.old.calls) }
         ensures appended { OnOk result
             (self.new.files ≡ map.insert self.old.files name.now
             (bytes_of self.old.files name.now ++ piece.now)) }
         ensures refused { OnErr result (self.new.files ≡ self.old.files) }
-        ensures counted { self.new.calls ≡ after_call self.old.calls }
-        ensures causes { Causes OutsideErr.Failed result self.old.calls.faults
-            self.new.calls.faults }
+        ensures counted { CountsCall result self.old.calls self.new.calls }
         ensures wants { Causes OutsideErr.NoMemory result self.old.wants self.new.wants }
     {
         self.calls.begin()?;

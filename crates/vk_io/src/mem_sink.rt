@@ -1,5 +1,5 @@
-ghost use Rattle.std.specs.Prelude.{◌≡◌, ℕ, ◌≤◌, ◌++◌, ◌↔◌, [], ◌∷◌, OnOk, OnErr, IsErrOf, IsTrue};
-ghost use Rattle.vk_io.specs.Faults.{Causes, fails_next, fails_too, after_call};
+ghost use Rattle.std.specs.Prelude.{◌≡◌, ℕ, ◌≤◌, ◌++◌, [], ◌∷◌, OnOk, OnErr};
+ghost use Rattle.vk_io.specs.Faults.{Causes, CountsCall, fails_too};
 ghost use Rattle.vk_io.specs.Files.{Modelled, Takes};
 
 use crate::appending::put_behind;
@@ -57,8 +57,7 @@ impl MemSink {
             (self.new ≡ record self.old { calls = fails_too call self.old.calls }) }
         ensures refused { OnErr result (self.new ≡ self.old) }
     {
-        self.calls.name(call)?;
-        Ok(())
+        self.calls.name(call)
     }
 }
 
@@ -72,12 +71,9 @@ impl Sink for MemSink {
     ghost wants = { λ s. s.wants };
 
     fn put(&mut self, piece: &[u8]) -> Result<(), OutsideErr>
-        ensures fails { IsErrOf result OutsideErr.Failed ↔ IsTrue (fails_next self.old.calls) }
         ensures put { OnOk result (self.new.taken ≡ self.old.taken ++ piece.now) }
         ensures refused { OnErr result (self.new.taken ≡ self.old.taken) }
-        ensures counted { self.new.calls ≡ after_call self.old.calls }
-        ensures causes { Causes OutsideErr.Failed result self.old.calls.faults
-            self.new.calls.faults }
+        ensures counted { CountsCall result self.old.calls self.new.calls }
         ensures wants { Causes OutsideErr.NoMemory result self.old.wants self.new.wants }
     {
         self.calls.begin()?;

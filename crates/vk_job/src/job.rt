@@ -117,38 +117,6 @@ impl Job {
         }
     }
 
-    /// The seal at that position, counted from 1, as it stands on the board.
-    pub fn seal(&self, alloc: Global, position: u32) -> Result<SealLines, NoMemory>
-        requires some { 1 ≤ position }
-        requires last { position ≤ length self.now.auction.seals }
-        ensures { IfOk result
-            (λ lines. lines ≡ seal_lines_of
-            (slice_index_or self.now.auction.seals (position - 1) no_row)) }
-    {
-        let lines = self.proof().seal(alloc, position)?;
-        Ok(lines)
-    }
-
-    /// What is published of the lane, counted from 1.
-    pub fn lane(&self, alloc: Global, lane: u32) -> Result<LaneLines, NoMemory>
-        requires some { 1 ≤ lane }
-        requires last { lane ≤ self.now.auction.lanes }
-        ensures { IfOk result (λ lines. lines ≡ lane_of self.now.auction lane) }
-    {
-        let lines = self.proof().lane(alloc, lane)?;
-        Ok(lines)
-    }
-
-    /// What is shown of the lane, counted from 1, for that bit.
-    pub fn shown(&self, alloc: Global, lane: u32, bit: bool) -> Result<Seq<Shown>, NoMemory>
-        requires some { 1 ≤ lane }
-        requires last { lane ≤ self.now.auction.lanes }
-        ensures { IfOk result (λ shown. shown ≡ shown_in self.now.auction lane bit) }
-    {
-        let shown = self.proof().shown(alloc, lane, bit)?;
-        Ok(shown)
-    }
-
     /// What is shown of the lane, counted from 1, for its bit in the challenge that is kept. The
     /// phase has one.
     pub fn reply(&self, alloc: Global, lane: u32) -> Result<Seq<Shown>, NoMemory>
@@ -160,7 +128,7 @@ impl Job {
             (kept_bit self.now.auction.phase lane)) }
     {
         let bit = bit_in(&self.auction.phase, lane);
-        let shown = self.shown(alloc, lane, bit)?;
+        let shown = self.proof().shown(alloc, lane, bit)?;
         Ok(shown)
     }
 
@@ -177,35 +145,11 @@ impl Job {
         ensures { IfOk result (λ piece. piece.items
             ≡ slice_index_or (board_pieces self.now.auction) index []) }
     {
-        let head = head_text(alloc, &self.head())?;
-        let piece = self.proof().file_piece(alloc, head.as_slice(), index)?;
-        Ok(piece)
-    }
-
-    /// How many pieces the file of the reply to a challenge is written in: its head, each lane, and
-    /// its end. The challenge has a bit for each lane.
-    pub fn reply_pieces(&self, challenge: &Challenge) -> usize
-        requires { length challenge.now.bits ≡ self.now.auction.lanes }
-        ensures { result ≡ length (reply_pieces self.now.auction challenge.now) }
-    {
-        self.proof().reply_pieces(challenge)
-    }
-
-    /// A piece of that file, counted from 0.
-    pub fn reply_piece(
-        &self,
-        alloc: Global,
-        challenge: &Challenge,
-        index: usize,
-    ) -> Result<Vec<u8>, NoMemory>
-        requires bits { length challenge.now.bits ≡ self.now.auction.lanes }
-        requires index { index < length (reply_pieces self.now.auction challenge.now) }
-        ensures { IfOk result
-            (λ piece. piece.items
-            ≡ slice_index_or (reply_pieces self.now.auction challenge.now) index []) }
-    {
-        let piece = self.proof().reply_piece(alloc, challenge, index)?;
-        Ok(piece)
+        if index == 0 {
+            return head_text(alloc, &self.head());
+        }
+        // a piece behind the head's is the same behind any
+        self.proof().file_piece(alloc, &[], index)
     }
 
     /// Its proof, which borrows what it is made from.

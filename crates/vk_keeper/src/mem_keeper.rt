@@ -1,7 +1,7 @@
-ghost use Rattle.std.specs.Prelude.{◌≡◌, ◌≢◌, ◌++◌, ◌↔◌, [], ◌∷◌, All, AllPairs, IfSome, IfOk, IfErr, OnOk, OnErr, IsErr, IsErrOf, IsTrue};
+ghost use Rattle.std.specs.Prelude.{◌≡◌, ◌≢◌, ◌++◌, [], ◌∷◌, All, AllPairs, IfSome, IfOk, IfErr, OnOk, OnErr};
 ghost use Rattle.std.specs.Prelude as list;
 ghost use Rattle.std.specs.FinMap as map;
-ghost use Rattle.vk_io.specs.Faults.{Causes, fails_next, fails_too, after_call};
+ghost use Rattle.vk_io.specs.Faults.{CountsCall, fails_too};
 ghost use Rattle.vk_keeper.specs.Auctions.{IsAuction};
 ghost use Rattle.vk_keeper.specs.First.{IsFirstAuction, lifted};
 ghost use Rattle.vk_keeper.specs.Kept.{AreKept, ledger_in};
@@ -98,21 +98,17 @@ impl MemKeeper {
             (self.new ≡ record self.old { calls = fails_too call self.old.calls }) }
         ensures refused { OnErr result (self.new ≡ self.old) }
     {
-        self.calls.name(call)?;
-        Ok(())
+        self.calls.name(call)
     }
 
     /// Counts one call of the trait. Errs where it is one that is to fail, and changes no auction.
     fn begin(&mut self) -> Result<(), OutsideErr>
-        ensures fails { IsErr result ↔ IsTrue (fails_next self.old.calls) }
         ensures outside { IfErr result (λ refusal. refusal ≡ OutsideErr.Failed) }
         ensures ledger { IsLedger self.old.ledger }
-        ensures counted { self.new ≡ record self.old { calls = after_call self.old.calls } }
-        ensures causes { Causes OutsideErr.Failed result self.old.calls.faults
-            self.new.calls.faults }
+        ensures counted { CountsCall result self.old.calls self.new.calls }
+        ensures same { self.new ≡ record self.old { calls = self.new.calls } }
     {
-        self.calls.begin()?;
-        Ok(())
+        self.calls.begin()
     }
 }
 
@@ -129,16 +125,13 @@ impl Keeper for MemKeeper {
     ghost get_gives = { λ old id answer _. IfOk answer (λ found. found ≡ map.get old.ledger id) };
 
     fn get(&mut self, id: &[u8; 16]) -> Result<Option<Auction>, OutsideErr>
-        ensures fails { IsErrOf result OutsideErr.Failed ↔ IsTrue (fails_next self.old.calls) }
         ensures answer { IfOk result (λ found. found ≡ map.get self.old.ledger id.now) }
         ensures id { IfOk result (λ found. IfSome found (λ auction. auction.id ≡ id.now)) }
         ensures right { IfOk result (λ found. IfSome found IsAuction) }
         ensures ledger { IsLedger self.old.ledger }
         ensures kept { self.new.ledger ≡ self.old.ledger }
-        ensures counted { self.new.calls ≡ after_call self.old.calls }
+        ensures counted { CountsCall result self.old.calls self.new.calls }
         ensures turn { AfterGet self.old.turns self.new.turns }
-        ensures causes { Causes OutsideErr.Failed result self.old.calls.faults
-            self.new.calls.faults }
     {
         self.turns.count_get();
         self.begin()?;
@@ -148,15 +141,12 @@ impl Keeper for MemKeeper {
 
     fn put(&mut self, auction: Auction) -> Result<(), OutsideErr>
         requires { IsAuction auction }
-        ensures fails { IsErrOf result OutsideErr.Failed ↔ IsTrue (fails_next self.old.calls) }
         ensures ledger { IsLedger self.old.ledger }
         ensures put { OnOk result
             (self.new.ledger ≡ map.insert self.old.ledger auction.id auction) }
         ensures refused { OnErr result (self.new.ledger ≡ self.old.ledger) }
-        ensures counted { self.new.calls ≡ after_call self.old.calls }
+        ensures counted { CountsCall result self.old.calls self.new.calls }
         ensures turn { AfterPut self.old.turns self.new.turns }
-        ensures causes { Causes OutsideErr.Failed result self.old.calls.faults
-            self.new.calls.faults }
     {
         self.turns.count_put();
         self.begin()?;

@@ -4,7 +4,6 @@
 
 mod columns;
 mod heads;
-mod quiet;
 mod refusals;
 mod rows;
 mod sealed;

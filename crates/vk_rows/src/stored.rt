@@ -7,10 +7,9 @@ ghost use Rattle.vk_keeper.specs.declared.auction.SealRow.{SealRow as AnyRow};
 ghost use Rattle.vk_rows.specs.Columns.{IsStored};
 ghost use Rattle.vk_rows.specs.Refusals.{MissesNone};
 
-use crate::quiet::QuietShelf;
 use crate::refusals::{refused_start, refused_text};
 use std::alloc::Global;
-use vk_io::OutsideErr;
+use vk_io::{OutsideErr, SureShelf};
 use vk_keeper::SealRow;
 use vk_lines::Lines;
 use vk_seal::{read_seal, read_secret};
@@ -40,12 +39,12 @@ pub fn read_texts(
 
 /// A stored text on a shelf of its own, and a reader before its first line. Errs where it has more
 /// than 2^30 bytes, and for want of memory.
-fn lines_of(alloc: Global, text: &[u8]) -> Result<(QuietShelf, Lines), OutsideErr>
+fn lines_of(alloc: Global, text: &[u8]) -> Result<(SureShelf, Lines), OutsideErr>
     ensures rest { IfOk result (λ made. rest_of made.1 made.0.files
         ≡ record { taken = 0; left = text.now }) }
     ensures exact { IsErrOf result OutsideErr.Failed → 2 ^ 30 < length text.now }
 {
-    let mut shelf = QuietShelf::new(alloc);
+    let mut shelf = SureShelf::new(alloc);
     shelf.put_file(STORED, text)?;
     let lines = Lines::start(alloc, &mut shelf, STORED).map_err(refused_start)?;
     Ok((shelf, lines))

@@ -1,20 +1,20 @@
-//! A shelf in memory of which no call fails.
-
-ghost use Rattle.std.specs.Prelude.{◌≡◌, OnOk};
+ghost use Rattle.std.specs.Prelude.{◌≡◌, OnOk, option_copied};
 ghost use Rattle.std.specs.FinMap as map;
 
+use crate::errors::OutsideErr;
+use crate::mem_shelf::MemShelf;
+use crate::shelf::Shelf;
 use std::alloc::Global;
 use std::marker::Model;
-use vk_io::{MemShelf, OutsideErr, Shelf};
 use vk_residue::NoMemory;
 
-/// A shelf in memory of which no call fails.
+/// A shelf in memory of which no call fails, but for want of memory.
 #[derive(Drop)]
-pub struct QuietShelf {
+pub struct SureShelf {
     inner: MemShelf,
 }
 
-impl Model for QuietShelf {
+impl Model for SureShelf {
     ghost use Rattle.std.specs.Prelude.{◌≡◌, []};
     ghost use Rattle.vk_io.specs.Memory.{MemoryFiles, files_code};
 
@@ -27,12 +27,12 @@ impl Model for QuietShelf {
     ghost invariant = { λ s. s.inner.calls.failing ≡ [] };
 }
 
-impl QuietShelf {
+impl SureShelf {
     /// No files. What is held later is made with this allocator.
-    pub fn new(alloc: Global) -> QuietShelf
+    pub fn new(alloc: Global) -> SureShelf
         ensures { result.files ≡ map.empty }
     {
-        QuietShelf {
+        SureShelf {
             inner: MemShelf::new(alloc),
         }
     }
@@ -41,12 +41,18 @@ impl QuietShelf {
     pub fn put_file(&mut self, name: &str, bytes: &[u8]) -> Result<(), NoMemory>
         ensures { OnOk result (self.new.files ≡ map.insert self.old.files name.now bytes.now) }
     {
-        self.inner.put_file(name, bytes)?;
-        Ok(())
+        self.inner.put_file(name, bytes)
+    }
+
+    /// What the named file holds. None where the name isn't held.
+    pub fn file(&self, name: &str) -> Option<&[u8]>
+        ensures { option_copied result ≡ map.get self.now.files name.now }
+    {
+        self.inner.file(name)
     }
 }
 
-impl Shelf for QuietShelf {
+impl Shelf for SureShelf {
     ghost use Rattle.std.specs.Prelude.{Some};
 
     ghost held = { λ s. Some s.files };
@@ -58,22 +64,18 @@ impl Shelf for QuietShelf {
     ghost length_gives = { λ _ _ _ _. Unit {0} };
 
     fn length(&mut self, name: &str) -> Result<Option<u64>, OutsideErr> {
-        let answer = self.inner.length(name);
-        answer
+        self.inner.length(name)
     }
 
     fn read_at(&mut self, name: &str, at: u64, into: &mut [u8]) -> Result<usize, OutsideErr> {
-        let answer = self.inner.read_at(name, at, into);
-        answer
+        self.inner.read_at(name, at, into)
     }
 
     fn create(&mut self, name: &str) -> Result<(), OutsideErr> {
-        let answer = self.inner.create(name);
-        answer
+        self.inner.create(name)
     }
 
     fn append(&mut self, name: &str, piece: &[u8]) -> Result<(), OutsideErr> {
-        let answer = self.inner.append(name, piece);
-        answer
+        self.inner.append(name, piece)
     }
 }
