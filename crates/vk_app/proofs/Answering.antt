@@ -1,5 +1,5 @@
 -- What runs on one keeper leave of one auction: one board, one challenge and one reply.
-use Rattle.std.proofs.Common.{◌≡◌, ℕ, zero, suc, List, [], ◌∷◌, Option, Some, None, IfSome, IsSomeAnd, refl, sym, ap, subst, ◌∙◌, arith}
+use Rattle.std.proofs.Common.{◌≡◌, ℕ, zero, suc, List, [], ◌∷◌, Some, refl, sym, ap, subst, ◌∙◌, arith}
 use Rattle.std.specs.Prelude.{Contains}
 use Rattle.std.specs.FinMap.{get}
 use Rattle.std.proofs.lemmas.Option.{same_Some}
@@ -8,47 +8,17 @@ use Rattle.vk_reply.specs.declared.challenge.Challenge.{Challenge}
 use Rattle.vk_reply.specs.Texts.{challenge_text}
 use Rattle.vk_verifier.specs.Acceptance.{Accepts}
 use Rattle.vk_keeper.specs.declared.auction.Auction.{Auction}
-use Rattle.vk_keeper.specs.declared.auction.Phase.{Phase}
-use Rattle.vk_keeper.specs.declared.auction.Phase.TheVariants.{Taking, Proved, Answered}
-use Rattle.vk_keeper.specs.Auctions.{challenge_of, seed_of}
+use Rattle.vk_keeper.specs.Auctions.{challenge_of}
 use Rattle.vk_keeper.specs.Ledgers.{Ledger, IsLedger}
-use Rattle.vk_job.specs.Proofs.{drawn_in, lane_in}
-use Rattle.vk_job.specs.Jobs.{plan_of, values_of}
-use Rattle.vk_job.specs.Published.{board_of, head_of, reply_of}
-use Rattle.vk_house.specs.Once.{KeepsAnswer, KeepsAnswers, KeepsSeed}
-use Rattle.vk_house.specs.Steps.{in_phase}
-use Rattle.vk_house.proofs.Once.{keeps_on, keeps_same}
+use Rattle.vk_job.specs.Published.{board_of, reply_of}
+use Rattle.vk_house.specs.Once.{KeepsAnswers}
+use Rattle.vk_house.proofs.Once.{HasBoard, answer_stays, board_stays, keeps_on, keeps_same}
 use Rattle.vk_words.specs.Commands.{command_words}
 use Rattle.vk_ceremony.specs.Acts.{HouseAct}
 use Rattle.vk_app.specs.Auctions.{Answers, AreRuns, IsActIn, IsActOf, IsRun, Proves, PublishesBoard, PublishesReply, Run, orders_of}
 use Rattle.vk_app.proofs.Served.{served_found, served_keeps}
 
--- ---- the board of an auction
-
--- it is that of its seed: no challenge is in it
-board_by : (auction : Auction) (phase : Phase) (seed : List ℕ) → seed_of phase ≡ Some seed
-    → board_of (in_phase auction phase) ≡ board_of (in_phase auction (Proved seed))
-unfolding head_of lane_in plan_of values_of drawn_in
-board_by auction Taking seed is = cc
-board_by auction (Proved kept) seed is =
-    ap (λ s. board_of (in_phase auction (Proved s))) (same_Some kept seed is)
-board_by auction (Answered kept challenge) seed is =
-    ap (λ s. board_of (in_phase auction (Proved s))) (same_Some kept seed is)
-
-pub board_kept : (auction : Auction) (seed : List ℕ) (later : Auction)
-    → seed_of auction.phase ≡ Some seed
-    → KeepsSeed auction seed later → board_of later ≡ board_of auction
-board_kept auction seed later is keeps =
-    ap board_of keeps.same ∙ board_by auction later.phase seed keeps.seed
-    ∙ sym (board_by auction auction.phase seed is)
-
 -- ---- what stands in the last ledger
-
--- the auction of that id there, of which this is the board
-record Published (last : Ledger) (id published : List ℕ) : Type 0 where
-  auction : Auction
-  stands : get last id ≡ Some auction
-  board_is : published ≡ board_of auction
 
 -- the auction of that id there, which was given this challenge and has this reply
 record Replied (last : Ledger) (id given shown : List ℕ) : Type 0 where
@@ -60,38 +30,6 @@ record Replied (last : Ledger) (id given shown : List ℕ) : Type 0 where
   shown_is : shown ≡ reply_of auction answered
   accepted : Accepts (board_of auction) (challenge_text answered) (reply_of auction answered)
 
-pub keeps_at : (old new : Ledger) (id : List ℕ) (auction : Auction) → KeepsAnswers old new
-    → get old id ≡ Some auction → KeepsAnswer auction auction.phase (get new id)
-keeps_at old new id auction keeps stands =
-    subst (λ found. IfSome found (λ (a : Auction). KeepsAnswer a a.phase (get new id))) stands
-    (keeps id)
-
--- an auction that is proved keeps its board
-pub board_stays : (auction : Auction) (seed : List ℕ) (phase : Phase) (later : Option Auction)
-    → seed_of phase ≡ Some seed → seed_of auction.phase ≡ Some seed
-    → KeepsAnswer auction phase later
-    → IsSomeAnd later (λ last. board_of last ≡ board_of auction)
-board_stays auction seed Taking later is whole keeps = cc
-board_stays auction seed (Proved kept) None is whole keeps = absurd keeps
-board_stays auction seed (Proved kept) (Some last) is whole keeps =
-    board_kept auction kept last (whole ∙ sym is) keeps
-board_stays auction seed (Answered kept challenge) later is whole keeps =
-    subst (λ l. IsSomeAnd l (λ last. board_of last ≡ board_of auction)) (sym keeps) refl
-
--- and one that was answered stays
-pub reply_stays : (auction : Auction) (answered : Challenge) (phase : Phase) (later : Option Auction)
-    → challenge_of phase ≡ Some answered → KeepsAnswer auction phase later → later ≡ Some auction
-reply_stays auction answered Taking later is keeps = cc
-reply_stays auction answered (Proved seed) later is keeps = cc
-reply_stays auction answered (Answered seed kept) later is keeps = keeps
-
-published_by : (last : Ledger) (id published : List ℕ) (auction : Auction) (found : Option Auction)
-    → get last id ≡ found → published ≡ board_of auction
-    → IsSomeAnd found (λ later. board_of later ≡ board_of auction) → Published last id published
-published_by last id published auction None at is stays = absurd stays
-published_by last id published auction (Some later) at is stays =
-    record { auction = later; stands = at; board_is = is ∙ sym stays }
-
 -- ---- acts
 
 -- what an act publishes, where all that is kept after it is kept until the last ledger
@@ -101,15 +39,14 @@ record Lasts (act : HouseAct) (last : Ledger) : Type 0 where
   keeps : KeepsAnswers act.kept last
 
 proved_lasts : (act : HouseAct) (last : Ledger) (id published : List ℕ) → Lasts act last
-    → Proves act id published → Published last id published
+    → Proves act id published → HasBoard (get last id) published
 proved_lasts act last id published lasts proves =
     let left = lasts.boards id proves.seed proves.board proves.order_is proves.done in
-    published_by last id published left.auction (get last id) refl
-    (same_Some published (board_of left.auction)
-    (sym proves.published_is ∙ ap (λ files. get files proves.board) left.written
-    ∙ get_own act.files proves.board (board_of left.auction)))
-    (board_stays left.auction proves.seed left.auction.phase (get last id) left.seed_is left.seed_is
-    (keeps_at act.kept last id left.auction lasts.keeps left.stands))
+    subst (HasBoard (get last id))
+    (same_Some (board_of left.auction) published
+    (sym (get_own act.files proves.board (board_of left.auction))
+    ∙ ap (λ files. get files proves.board) (sym left.written) ∙ proves.published_is))
+    (board_stays act.kept last id proves.seed left.auction lasts.keeps left.stands left.seed_is)
 
 answered_lasts : (act : HouseAct) (last : Ledger) (id given shown : List ℕ) → Lasts act last
     → Answers act id given shown → Replied last id given shown
@@ -118,8 +55,8 @@ answered_lasts act last id given shown lasts answers =
     record {
       auction = left.auction;
       answered = left.answered;
-      stands = reply_stays left.auction left.answered left.auction.phase (get last id)
-          left.answered_is (keeps_at act.kept last id left.auction lasts.keeps left.stands);
+      stands = answer_stays act.kept last id left.answered left.auction lasts.keeps left.stands
+          left.answered_is;
       answered_is = left.answered_is;
       given_is = same_Some given (challenge_text left.answered) (sym answers.given_is ∙ left.read);
       shown_is = same_Some shown (reply_of left.auction left.answered)
@@ -181,9 +118,9 @@ boards_are_one runs old new one other id published shown right are first second 
     in
     let there = proved_lasts other new id shown (act_lasts runs old new other right are second) next
     in
-    here.board_is ∙ ap board_of
+    sym here.board_is ∙ ap board_of
     (same_auction new id here.auction there.auction here.stands there.stands)
-    ∙ sym there.board_is
+    ∙ there.board_is
 
 pub answers_are_one : (runs : List Run) (old new : Ledger) (one other : HouseAct)
     (id given shown next_given next_shown : List ℕ) → IsLedger old → AreRuns runs old new
@@ -218,7 +155,7 @@ answers_are_accepted runs old new one other id published given shown right are f
     (act_lasts runs old new other right are second) answers in
     let board : board_of there.auction ≡ published =
     ap board_of (same_auction new id there.auction here.auction there.stands here.stands)
-    ∙ sym here.board_is in
+    ∙ here.board_is in
     subst (λ b. Accepts b given shown) board
     (subst (λ g. Accepts (board_of there.auction) g shown) (sym there.given_is)
     (subst (Accepts (board_of there.auction) (challenge_text there.answered)) (sym there.shown_is)

@@ -2,14 +2,18 @@
 use Rattle.std.proofs.Common.{◌≡◌, ℕ, zero, suc, List, [], ◌∷◌, Option, Some, None, IfSome, IsSomeAnd, refl, sym, ap, subst, ◌∙◌, arith}
 use Rattle.std.specs.Option.{option_or}
 use Rattle.std.specs.FinMap.{get}
+use Rattle.std.proofs.lemmas.Option.{same_Some}
 use Rattle.vk_vickrey.specs.declared.sales.Sale.{Sale}
 use Rattle.vk_reply.specs.declared.challenge.Challenge.{Challenge}
 use Rattle.vk_keeper.specs.declared.auction.Auction.{Auction}
 use Rattle.vk_keeper.specs.declared.auction.Phase.{Phase}
 use Rattle.vk_keeper.specs.declared.auction.Phase.TheVariants.{Taking, Proved, Answered}
-use Rattle.vk_keeper.specs.Auctions.{challenge_of}
+use Rattle.vk_keeper.specs.Auctions.{challenge_of, seed_of}
 use Rattle.vk_keeper.specs.Joining.{first_of}
 use Rattle.vk_keeper.specs.Ledgers.{Ledger}
+use Rattle.vk_job.specs.Proofs.{drawn_in, lane_in}
+use Rattle.vk_job.specs.Jobs.{plan_of, values_of}
+use Rattle.vk_job.specs.Published.{board_of, head_of}
 use Rattle.vk_house.specs.declared.errors.HouseErr.{HouseErr}
 use Rattle.vk_house.specs.Commands.{HouseCommand, Answer, id_of}
 use Rattle.vk_house.specs.Replies.{HouseReply, Work}
@@ -67,9 +71,6 @@ seed_on auction later last kept first second = record {
   seed = second.seed;
 }
 
-some_seed : (seed kept : List ℕ) → Some seed ≡ Some kept → seed ≡ kept
-some_seed seed kept is = cc
-
 proved_on : (auction : Auction) (kept : List ℕ) (held : Auction) (phase : Phase)
     (last : Option Auction) → let later = in_phase held phase in KeepsSeed auction kept later
     → KeepsAnswer later phase last → IsSomeAnd last (KeepsSeed auction kept)
@@ -78,7 +79,7 @@ proved_on auction kept held (Proved seed) None first second = absurd second
 proved_on auction kept held (Proved seed) (Some last) first second =
     seed_on auction (in_phase held (Proved seed)) last kept first
     (subst (λ s. KeepsSeed (in_phase held (Proved seed)) s last)
-    (some_seed seed kept first.seed) second)
+    (same_Some seed kept first.seed) second)
 proved_on auction kept held (Answered seed challenge) last first second =
     subst (λ l. IsSomeAnd l (KeepsSeed auction kept)) (sym second) first
 
@@ -110,25 +111,77 @@ run_keeps (event ∷ later) old new run =
     keeps_on old run.0 new (call_keeps old run.0 event.command event.reply run.1)
     (run_keeps later run.0 new run.2)
 
+-- ---- what is published of an auction
+
+-- its board is that of its seed: no challenge is in it
+board_by : (held : Auction) (phase : Phase) (seed : List ℕ) → seed_of phase ≡ Some seed
+    → board_of (in_phase held phase) ≡ board_of (in_phase held (Proved seed))
+unfolding head_of lane_in plan_of values_of drawn_in
+board_by held Taking seed is = cc
+board_by held (Proved kept) seed is =
+    ap (λ s. board_of (in_phase held (Proved s))) (same_Some kept seed is)
+board_by held (Answered kept challenge) seed is =
+    ap (λ s. board_of (in_phase held (Proved s))) (same_Some kept seed is)
+
+-- an auction stands there, whose board is that one
+pub record HasBoard (found : Option Auction) (board : List ℕ) : Type 0 where
+  pub auction : Auction
+  pub stands : found ≡ Some auction
+  pub board_is : board_of auction ≡ board
+
+board_stays_by : (held : Auction) (phase : Phase) (seed : List ℕ) (later : Option Auction)
+    → let auction = in_phase held phase in seed_of phase ≡ Some seed
+    → KeepsAnswer auction phase later → HasBoard later (board_of auction)
+board_stays_by held Taking seed later is keeps = cc
+board_stays_by held (Proved kept) seed None is keeps = absurd keeps
+board_stays_by held (Proved kept) seed (Some last) is keeps = record {
+  auction = last;
+  stands = refl;
+  board_is = ap board_of keeps.same ∙ board_by held last.phase kept keeps.seed;
+}
+board_stays_by held (Answered kept challenge) seed later is keeps =
+    record { auction = in_phase held (Answered kept challenge); stands = keeps; board_is = refl }
+
+answer_stays_by : (auction : Auction) (phase : Phase) (challenge : Challenge)
+    (later : Option Auction) → challenge_of phase ≡ Some challenge
+    → KeepsAnswer auction phase later → later ≡ Some auction
+answer_stays_by auction Taking challenge later is keeps = cc
+answer_stays_by auction (Proved seed) challenge later is keeps = cc
+answer_stays_by auction (Answered seed kept) challenge later is keeps = keeps
+
+keeps_at : (old new : Ledger) (id : List ℕ) (auction : Auction) → KeepsAnswers old new
+    → get old id ≡ Some auction → KeepsAnswer auction auction.phase (get new id)
+keeps_at old new id auction keeps stands =
+    subst (λ found. Stays found (get new id)) stands (keeps id)
+
+-- an auction that has a seed keeps its board
+pub board_stays : (old new : Ledger) (id seed : List ℕ) (auction : Auction) → KeepsAnswers old new
+    → get old id ≡ Some auction → seed_of auction.phase ≡ Some seed
+    → HasBoard (get new id) (board_of auction)
+board_stays old new id seed auction keeps stands is =
+    board_stays_by auction auction.phase seed (get new id) is
+    (keeps_at old new id auction keeps stands)
+
+-- and one that was answered stays
+pub answer_stays : (old new : Ledger) (id : List ℕ) (challenge : Challenge) (auction : Auction)
+    → KeepsAnswers old new → get old id ≡ Some auction
+    → challenge_of auction.phase ≡ Some challenge → get new id ≡ Some auction
+answer_stays old new id challenge auction keeps stands is =
+    answer_stays_by auction auction.phase challenge (get new id) is
+    (keeps_at old new id auction keeps stands)
+
 -- ---- once
 
 -- an auction in which this challenge is answered
 abbrev Answers : Challenge → Option Auction → Type 0
 Answers challenge found = IsSomeAnd found (λ auction. challenge_of auction.phase ≡ Some challenge)
 
-stays_answered_by : (challenge : Challenge) (held : Auction) (phase : Phase)
-    (later : Option Auction) → let auction = in_phase held phase in
-    challenge_of phase ≡ Some challenge → KeepsAnswer auction phase later → Answers challenge later
-stays_answered_by challenge held Taking later is keeps = cc
-stays_answered_by challenge held (Proved seed) later is keeps = cc
-stays_answered_by challenge held (Answered seed kept) later is keeps =
-    subst (Answers challenge) (sym keeps) is
-
 stays_answered : (challenge : Challenge) (found later : Option Auction) → Answers challenge found
     → Stays found later → Answers challenge later
 stays_answered challenge None later is keeps = absurd is
 stays_answered challenge (Some auction) later is keeps =
-    stays_answered_by challenge auction auction.phase later is keeps
+    subst (Answers challenge)
+    (sym (answer_stays_by auction auction.phase challenge later is keeps)) is
 
 answered_in : (asked : List ℕ) (challenge : Challenge) (held : Auction) (phase : Phase)
     → let auction = in_phase held phase in refusal_of (Answer asked challenge) (Some auction) ≡ None

@@ -1,5 +1,5 @@
 -- What is published of an auction at a store is one.
-use Rattle.std.proofs.Common.{◌≡◌, ℕ, List, Option, Some, None, IfSome, IsSomeAnd, length, refl, sym, ap, subst, ◌∙◌}
+use Rattle.std.proofs.Common.{◌≡◌, ℕ, List, Some, IfSome, length, refl, sym, ap, subst, ◌∙◌}
 use Rattle.std.specs.FinMap.{get}
 use Rattle.std.proofs.lemmas.Option.{same_Some}
 use Rattle.sqlite.specs.Store.{Ghosts}
@@ -10,17 +10,15 @@ use Rattle.vk_reply.specs.Values.{IsChallenge}
 use Rattle.vk_reply.specs.Texts.{challenge_text}
 use Rattle.vk_verifier.specs.Acceptance.{Accepts}
 use Rattle.vk_keeper.specs.declared.auction.Auction.{Auction}
-use Rattle.vk_keeper.specs.declared.auction.Phase.{Phase}
-use Rattle.vk_keeper.specs.declared.auction.Phase.TheVariants.{Taking, Proved, Answered}
-use Rattle.vk_keeper.specs.Auctions.{IsAuction, challenge_of, seed_of}
+use Rattle.vk_keeper.specs.Auctions.{IsAuction, challenge_of}
 use Rattle.vk_keeper.specs.Ledgers.{Ledger, IsKeptUnder, IsLedger}
-use Rattle.vk_job.specs.Proofs.{drawn_in, lane_in}
-use Rattle.vk_job.specs.Jobs.{plan_of, sale_in, values_of}
-use Rattle.vk_job.specs.Published.{IsChallengeTo, board_of, head_of, reply_of}
+use Rattle.vk_job.specs.Jobs.{sale_in}
+use Rattle.vk_job.specs.Published.{IsChallengeTo, board_of, reply_of}
 use Rattle.vk_house.specs.Commands.{HouseCommand, Prove, Answer, id_of}
 use Rattle.vk_house.specs.Replies.{HouseReply, Work}
-use Rattle.vk_house.specs.Steps.{house_step, in_phase}
-use Rattle.vk_house.specs.Once.{KeepsAnswer, KeepsAnswers, KeepsSeed}
+use Rattle.vk_house.specs.Steps.{house_step}
+use Rattle.vk_house.specs.Once.{KeepsAnswers}
+use Rattle.vk_house.proofs.Once.{HasBoard, answer_stays, board_stays}
 use Rattle.vk_auctioneer.specs.Lines.{reply_said}
 use Rattle.vk_auctioneer.proofs.Working.{GivesWork, Worked, answer_challenges, prove_seeds, proved_from, worked}
 use Rattle.vk_honest.proofs.Accepted.{answers_are_accepted}
@@ -28,48 +26,6 @@ use Rattle.vk_store_laws.specs.Runs.{Tells}
 use Rattle.vk_store_laws.specs.Serving.{Served, done, Serves, Proves, Answers}
 use Rattle.vk_store_laws.proofs.Runs.{IsSettled}
 use Rattle.vk_store_laws.proofs.Serving.{StepsRight, led, serve}
-
--- ---- the board and the reply of an auction
-
--- a board is that of its seed: no challenge is in it
-board_by : (auction : Auction) (phase : Phase) (seed : List ℕ) → seed_of phase ≡ Some seed
-    → board_of (in_phase auction phase) ≡ board_of (in_phase auction (Proved seed))
-unfolding head_of lane_in plan_of values_of drawn_in
-board_by auction Taking seed is = cc
-board_by auction (Proved own) seed is =
-    ap (λ s. board_of (in_phase auction (Proved s))) (same_Some own seed is)
-board_by auction (Answered own challenge) seed is =
-    ap (λ s. board_of (in_phase auction (Proved s))) (same_Some own seed is)
-
-board_kept : (auction : Auction) (seed : List ℕ) (later : Auction)
-    → seed_of auction.phase ≡ Some seed
-    → KeepsSeed auction seed later → board_of later ≡ board_of auction
-board_kept auction seed later is keeps =
-    ap board_of keeps.same ∙ board_by auction later.phase seed keeps.seed
-    ∙ sym (board_by auction auction.phase seed is)
-
-board_stays : (auction : Auction) (seed : List ℕ) (phase : Phase) (later : Option Auction)
-    → seed_of phase ≡ Some seed → seed_of auction.phase ≡ Some seed
-    → KeepsAnswer auction phase later
-    → IsSomeAnd later (λ last. board_of last ≡ board_of auction)
-board_stays auction seed Taking later is whole keeps = cc
-board_stays auction seed (Proved own) None is whole keeps = absurd keeps
-board_stays auction seed (Proved own) (Some last) is whole keeps =
-    board_kept auction own last (whole ∙ sym is) keeps
-board_stays auction seed (Answered own challenge) later is whole keeps =
-    subst (λ l. IsSomeAnd l (λ last. board_of last ≡ board_of auction)) (sym keeps) refl
-
-answer_stays : (auction : Auction) (challenge : Challenge) (phase : Phase) (later : Option Auction)
-    → challenge_of phase ≡ Some challenge → KeepsAnswer auction phase later → later ≡ Some auction
-answer_stays auction challenge Taking later is keeps = cc
-answer_stays auction challenge (Proved seed) later is keeps = cc
-answer_stays auction challenge (Answered seed own) later is keeps = keeps
-
-keeps_at : (old new : Ledger) (id : List ℕ) (auction : Auction) → KeepsAnswers old new
-    → get old id ≡ Some auction → KeepsAnswer auction auction.phase (get new id)
-keeps_at old new id auction keeps stands =
-    subst (λ answer. IfSome answer (λ (a : Auction). KeepsAnswer a a.phase (get new id))) stands
-    (keeps id)
 
 -- ---- what was done
 
@@ -96,36 +52,22 @@ stands_after old new command reply auction is did =
 
 -- ---- what lasts
 
--- the last ledger has an auction under the id whose board is that of this one
-record Published (last : Ledger) (id : List ℕ) (auction : Auction) : Type 0 where
-  later : Auction
-  stands : get last id ≡ Some later
-  board_is : board_of later ≡ board_of auction
-
--- it has this auction there, which answered the challenge, and whose reply is accepted
+-- the last ledger has this auction under the id, which answered the challenge, and whose reply is
+-- accepted
 record Replied (last : Ledger) (id : List ℕ) (challenge : Challenge) (auction : Auction) : Type 0
   where
     stands : get last id ≡ Some auction
     challenge_is : challenge_of auction.phase ≡ Some challenge
     accepted : Accepts (board_of auction) (challenge_text challenge) (reply_of auction challenge)
 
-published_by : (last : Ledger) (id : List ℕ) (auction : Auction) (answer : Option Auction)
-    → get last id ≡ answer → IsSomeAnd answer (λ later. board_of later ≡ board_of auction)
-    → Published last id auction
-published_by last id auction None at is = absurd is
-published_by last id auction (Some later) at is =
-    record { later = later; stands = at; board_is = is }
-
 proved_lasts : (old new last : Ledger) (id seed : List ℕ) (auction : Auction) (sale : Sale)
     → house_step old (Prove id seed) ≡ (Work auction sale, new) → KeepsAnswers new last
-    → Published last id auction
+    → HasBoard (get last id) (board_of auction)
 proved_lasts old new last id seed auction sale is keeps =
     let did = gave old new (Prove id seed) (λ a. refl) auction sale is in
     let seeded = prove_seeds id seed (get old id) auction did.passes did.later in
-    published_by last id auction (get last id) refl
-    (board_stays auction seed auction.phase (get last id) seeded.seed_is seeded.seed_is
-    (keeps_at new last id auction keeps
-    (stands_after old new (Prove id seed) (Work auction sale) auction is did)))
+    board_stays new last id seed auction keeps
+    (stands_after old new (Prove id seed) (Work auction sale) auction is did) seeded.seed_is
 
 asked_of : (auction : Auction) (challenge : Challenge) → IsAuction auction
     → challenge_of auction.phase ≡ Some challenge → IsChallengeTo auction challenge
@@ -147,15 +89,14 @@ answered_lasts old new last id challenge auction sale ledger is keeps =
     let proved = proved_from auction asked.seed under.right asked.seeded.seed_is asked.seeded.tapes
     in
     record {
-      stands = answer_stays auction challenge auction.phase (get last id) asked.challenge_is
-          (keeps_at new last id auction keeps stands);
+      stands = answer_stays new last id challenge auction keeps stands asked.challenge_is;
       challenge_is = asked.challenge_is;
       accepted = answers_are_accepted auction challenge proved
           (asked_of auction challenge under.right asked.challenge_is);
     }
 
 published : (all : List Served) (old last : Ledger) (id : List ℕ) (auction : Auction)
-    → StepsRight all old last → Proves all id auction → Published last id auction
+    → StepsRight all old last → Proves all id auction → HasBoard (get last id) (board_of auction)
 published all old last id auction steps (seed, sale, among) =
     let one = led all (done (Prove id seed) (Work auction sale)) old last steps among in
     proved_lasts one.before one.after last id seed auction sale one.steps one.keeps
@@ -189,7 +130,7 @@ module _ {S : Type 0} (g : Ghosts S) (settled : IsSettled g) where
       let it = serve g settled all old new ledger serves tells in
       let a = published all ledger it.0 id first it.1 here in
       let b = published all ledger it.0 id second it.1 there in
-      sym a.board_is ∙ ap board_of (same_Some a.later b.later (sym a.stands ∙ b.stands))
+      sym a.board_is ∙ ap board_of (same_Some a.auction b.auction (sym a.stands ∙ b.stands))
       ∙ b.board_is
 
   pub answers_accepted : (all : List Served) (old new : Held S) (ledger : Ledger) (id : List ℕ)
@@ -201,4 +142,4 @@ module _ {S : Type 0} (g : Ghosts S) (settled : IsSettled g) where
       let a = published all ledger it.0 id first it.1 here in
       let b = replied all ledger it.0 id challenge second it.1 there in
       subst (λ board. Accepts board (challenge_text challenge) (reply_of second challenge))
-      (ap board_of (same_Some second a.later (sym b.stands ∙ a.stands)) ∙ a.board_is) b.accepted
+      (ap board_of (same_Some second a.auction (sym b.stands ∙ a.stands)) ∙ a.board_is) b.accepted
