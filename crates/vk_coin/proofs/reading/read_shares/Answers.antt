@@ -55,7 +55,7 @@ loop-index-preserved g c =
       right = rw c.in_ok-push.ensures.pushed
           (each_push (λ before. IsShareOf c.args.auction.now c.args.bits (length before + 1)) []
           l.shares c.in_ok-share.share l.invariant.right
-          (subst P c.len.ensures c.in_ok-share.ensures.right));
+          (subst P c.len.ensures c.in_ok-share.ensures.reads.right));
       held = c.in_ok-share.ensures.reads.shelf.held ∙ l.invariant.held;
       kept = c.in_ok-share.ensures.reads.shelf.causes ∙ l.invariant.kept;
       file = record {
