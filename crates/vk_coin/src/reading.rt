@@ -49,9 +49,8 @@ fn share_read<S: Shelf>(alloc: Global, shelf: &mut S, lines: &mut Lines) -> Resu
 /// Reads the line that shows a share.
 #[tactic(auto, unfolding(vk_lines::specs::Lines::line_by))]
 fn read_show<S: Shelf>(alloc: Global, shelf: &mut S, lines: &mut Lines) -> Result<Show, ReadErr>
-    ensures reads { Reads (line_by show_line) S.held S.Shelf.faults
-        lines.old lines.new shelf.old shelf.new result }
-    ensures bits { IfOk result (λ show. IsLaneCount (length show.bits)) }
+    ensures reads { ReadsRight (line_by show_line) (λ show. IsLaneCount (length show.bits))
+        S.held S.Shelf.faults lines.old lines.new shelf.old shelf.new result }
 {
     lines.read_text(shelf)?;
     let value = show_line(alloc, lines.text())?;

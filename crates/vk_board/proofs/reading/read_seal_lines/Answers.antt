@@ -40,10 +40,7 @@ loop-index-preserved g c =
       held = c.in_ok-seal.ensures.reads.shelf.held ∙ l.invariant.held;
       kept = c.in_ok-seal.ensures.reads.shelf.causes ∙ l.invariant.kept;
       wants = c.in_ok-seal.ensures.wants ∙ l.invariant.wants;
-      file = record {
-        name = c.in_ok-seal.ensures.reads.file.name ∙ l.invariant.file.name;
-        size = c.in_ok-seal.ensures.reads.file.size ∙ l.invariant.file.size;
-      };
+      file = search rules;
     }
 
 pub loop-index-init : goal.loop-index-init
