@@ -3,7 +3,7 @@ ghost use Rattle.std.specs.List.{All};
 ghost use Rattle.vk_residue.specs.Residue.{IsResidue};
 ghost use Rattle.vk_io.specs.Faults.{MayCause, Rose};
 ghost use Rattle.vk_lines.specs.Forms.{many_at};
-ghost use Rattle.vk_lines.specs.Lines.{Reads, ReadsFreely, line_by};
+ghost use Rattle.vk_lines.specs.Lines.{Reads, ReadsFreely, ReadsRight, line_by};
 ghost use Rattle.vk_board.specs.Values.{AreBytes, IsCom, IsVersion, IsReserve, IsWinner, IsHead, IsSealAfter, AreSealsOf, AreSeals, IsLaneLines};
 ghost use Rattle.vk_board.specs.Reading.{com_line, posted_line, seats_of, is_new_seat, seat_line, reserve_at, unsold_line, winner_line, head_at, seal_at, seal_lines_at, seals_at, lane_at, seat_at, lane_begun_at, wires_at, HasRead, IsAmongSeals};
 
@@ -154,9 +154,8 @@ pub fn read_seals<S: Shelf>(
     lines: &mut Lines,
     head: &Head,
 ) -> Result<Seq<SealLines>, ReadErr>
-    ensures reads { Reads (seals_at head.now) S.held S.Shelf.faults
+    ensures reads { ReadsRight (seals_at head.now) (AreSeals head.now) S.held S.Shelf.faults
         lines.old lines.new shelf.old shelf.new result }
-    ensures right { IfOk result (AreSeals head.now) }
     ensures wants { MayCause ReadErr.NoMemory result (S.Shelf.wants shelf.old)
         (S.Shelf.wants shelf.new) }
     ensures behind { IsErrOf result ReadErr.NoMemory
@@ -177,9 +176,8 @@ pub fn read_seal_lines<S: Shelf>(
     count: u32,
     lanes: u32,
 ) -> Result<Seq<SealLines>, ReadErr>
-    ensures reads { Reads (seal_lines_at count lanes) S.held S.Shelf.faults
-        lines.old lines.new shelf.old shelf.new result }
-    ensures right { IfOk result (AreSealsOf count lanes) }
+    ensures reads { ReadsRight (seal_lines_at count lanes) (AreSealsOf count lanes)
+        S.held S.Shelf.faults lines.old lines.new shelf.old shelf.new result }
     ensures wants { MayCause ReadErr.NoMemory result (S.Shelf.wants shelf.old)
         (S.Shelf.wants shelf.new) }
     ensures behind { IsErrOf result ReadErr.NoMemory
@@ -203,9 +201,8 @@ fn read_seal<S: Shelf>(
     lanes: u32,
     before: &[SealLines],
 ) -> Result<SealLines, ReadErr>
-    ensures reads { Reads (seal_at lanes before.now) S.held S.Shelf.faults
-        lines.old lines.new shelf.old shelf.new result }
-    ensures right { IfOk result (IsSealAfter lanes before.now) }
+    ensures reads { ReadsRight (seal_at lanes before.now) (IsSealAfter lanes before.now)
+        S.held S.Shelf.faults lines.old lines.new shelf.old shelf.new result }
     ensures wants { MayCause ReadErr.NoMemory result (S.Shelf.wants shelf.old)
         (S.Shelf.wants shelf.new) }
     ensures behind { IsErrOf result ReadErr.NoMemory
@@ -289,9 +286,8 @@ pub fn read_lane<S: Shelf>(
     wires: u32,
     rows: u32,
 ) -> Result<LaneLines, ReadErr>
-    ensures reads { Reads (lane_at lane wires rows) S.held S.Shelf.faults
-        lines.old lines.new shelf.old shelf.new result }
-    ensures right { IfOk result (IsLaneLines wires rows) }
+    ensures reads { ReadsRight (lane_at lane wires rows) (IsLaneLines wires rows)
+        S.held S.Shelf.faults lines.old lines.new shelf.old shelf.new result }
     ensures wants { MayCause ReadErr.NoMemory result (S.Shelf.wants shelf.old)
         (S.Shelf.wants shelf.new) }
     ensures behind { IsErrOf result ReadErr.NoMemory

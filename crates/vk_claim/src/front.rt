@@ -1,6 +1,6 @@
 // What stands in a claim file before its first lane.
 ghost use Rattle.std.specs.Prelude.{◌≡◌, IfOk};
-ghost use Rattle.vk_lines.specs.Lines.{Reads};
+ghost use Rattle.vk_lines.specs.Lines.{ReadsRight};
 ghost use Rattle.vk_claim.specs.Values.{IsClaimFront};
 ghost use Rattle.vk_claim.specs.Reading.{claim_front_at};
 
@@ -27,9 +27,8 @@ pub fn read_claim_front<S: Shelf>(
     shelf: &mut S,
     lines: &mut Lines,
 ) -> Result<ClaimFront, ReadErr>
-    ensures reads { Reads claim_front_at S.held S.Shelf.faults
+    ensures reads { ReadsRight claim_front_at IsClaimFront S.held S.Shelf.faults
         lines.old lines.new shelf.old shelf.new result }
-    ensures right { IfOk result IsClaimFront }
 {
     let head = read_claim_head(alloc, shelf, lines)?;
     let seals = read_seal_lines(alloc, shelf, lines, head.inputs, head.lanes)?;

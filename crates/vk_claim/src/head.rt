@@ -2,7 +2,7 @@
 ghost use Rattle.std.specs.Prelude.{◌≡◌, ◌++◌, ◌∷◌, [], codes, decimal, IfOk, OnOk};
 ghost use Rattle.std.specs.List.{flat_map};
 ghost use Rattle.vk_lines.specs.Forms.{line, spaced};
-ghost use Rattle.vk_lines.specs.Lines.{Reads, line_by};
+ghost use Rattle.vk_lines.specs.Lines.{Reads, ReadsRight, line_by};
 ghost use Rattle.vk_claim.specs.Values.{AreNumbers, IsClaimHead};
 ghost use Rattle.vk_claim.specs.Texts.{claim_head_text, numbers_text};
 ghost use Rattle.vk_claim.specs.Reading.{claim_head_at, kind_line, numbers_at};
@@ -40,9 +40,8 @@ pub fn read_claim_head<S: Shelf>(
     shelf: &mut S,
     lines: &mut Lines,
 ) -> Result<ClaimHead, ReadErr>
-    ensures reads { Reads claim_head_at S.held S.Shelf.faults
+    ensures reads { ReadsRight claim_head_at IsClaimHead S.held S.Shelf.faults
         lines.old lines.new shelf.old shelf.new result }
-    ensures right { IfOk result IsClaimHead }
 {
     lines.read_fixed(shelf, b"vickrey-claim 1")?;
     let auction = lines.read_id(shelf, b"auction")?;

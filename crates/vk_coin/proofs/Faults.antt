@@ -5,7 +5,9 @@ use Rattle.vk_residue.specs.Steps.{◌>>=◌}
 use Rattle.vk_lines.specs.Lines.{Rest, line_by}
 use Rattle.vk_lines.specs.Forms.{FindsFaults, Follows, Table, fault_line, whole}
 use Rattle.vk_lines.proofs.Faults.{end_ends, ends_done, ends_then, fault_line_is, follows_done, follows_then, line_follows, many_follows}
+use Rattle.vk_lines.proofs.Modelled.{reads_whole}
 use Rattle.vk_coin.specs.declared.share.Share.{Share}
+use Rattle.vk_coin.proofs.Forms.{coin_is_whole, share_is_whole}
 use Rattle.vk_coin.specs.Reading.{coin_at, coin_with, part_line, parts_at, share_at, share_with, shares_at, shown_at, shown_line}
 use Rattle.vk_coin.specs.Tables.{CoinPlace, Heading, Auction, Auditor, Show as ShowPlace, Bits, Auditors, Part, Shown, Last, Over, before_parts, before_shares, coin_table, share_table}
 
@@ -106,3 +108,6 @@ coin_ends =
 
 pub coin_fault : (bytes : List ℕ) → fault_line coin_table bytes ≡ result_err (whole coin_at bytes)
 coin_fault bytes = fault_line_is coin_table coin_at coin_ends bytes
+
+-- what each whole file is read by
+pub ruleset whole_rules = (reads_whole, share_is_whole, share_ends, coin_is_whole, coin_ends)

@@ -2,8 +2,8 @@ ghost use Rattle.std.specs.Prelude.{[], ◌≡◌, ◌+◌, ◌≤◌, length, I
 ghost use Rattle.std.specs.List.{All};
 ghost use Rattle.vk_residue.specs.Limits.{IsLaneCount};
 ghost use Rattle.vk_commit.specs.Values.{AreBytes};
-ghost use Rattle.vk_lines.specs.Forms.{AnswersWhole, EachAfter};
-ghost use Rattle.vk_lines.specs.Lines.{Reads, line_by};
+ghost use Rattle.vk_lines.specs.Forms.{EachAfter, ReadsWhole};
+ghost use Rattle.vk_lines.specs.Lines.{Reads, ReadsRight, line_by};
 ghost use Rattle.vk_coin.specs.Coins.{IsCoin, IsShareOf, coin_text};
 ghost use Rattle.vk_coin.specs.Shares.{IsAuditor, IsShare, share_text};
 ghost use Rattle.vk_coin.specs.Reading.{coin_at, coin_with, parts_at, share_at, share_with, shares_at, show_line, shown_at};
@@ -19,16 +19,14 @@ use vk_seq::Seq;
 
 /// Reads a share's file whole. Malformed carries the number of the first line that isn't what its
 /// place demands.
+#[tactic(auto, using(crate::proofs::Faults::whole_rules))]
 pub fn read_share<S: Shelf>(
     alloc: Global,
     shelf: &mut S,
     lines: &mut Lines,
 ) -> Result<Share, ReadErr>
-    ensures reads { Reads share_at S.held S.Shelf.faults
+    ensures reads { ReadsWhole share_at IsShare share_text share_table S.held S.Shelf.faults
         lines.old lines.new shelf.old shelf.new result }
-    ensures right { IfOk result IsShare }
-    ensures answers { AnswersWhole IsShare share_text share_table (S.held shelf.old) lines.old
-        result }
 {
     let share = share_read(alloc, shelf, lines);
     share
@@ -37,9 +35,8 @@ pub fn read_share<S: Shelf>(
 /// Reads the lines of a share in turn.
 #[tactic(auto, unfolding(crate::specs::Reading::share_at))]
 fn share_read<S: Shelf>(alloc: Global, shelf: &mut S, lines: &mut Lines) -> Result<Share, ReadErr>
-    ensures reads { Reads share_at S.held S.Shelf.faults
+    ensures reads { ReadsRight share_at IsShare S.held S.Shelf.faults
         lines.old lines.new shelf.old shelf.new result }
-    ensures right { IfOk result IsShare }
 {
     lines.read_fixed(shelf, b"vickrey-share 1")?;
     let auction = lines.read_id(shelf, b"auction")?;
@@ -52,9 +49,8 @@ fn share_read<S: Shelf>(alloc: Global, shelf: &mut S, lines: &mut Lines) -> Resu
 /// Reads the line that shows a share.
 #[tactic(auto, unfolding(vk_lines::specs::Lines::line_by))]
 fn read_show<S: Shelf>(alloc: Global, shelf: &mut S, lines: &mut Lines) -> Result<Show, ReadErr>
-    ensures reads { Reads (line_by show_line) S.held S.Shelf.faults
-        lines.old lines.new shelf.old shelf.new result }
-    ensures bits { IfOk result (λ show. IsLaneCount (length show.bits)) }
+    ensures reads { ReadsRight (line_by show_line) (λ show. IsLaneCount (length show.bits))
+        S.held S.Shelf.faults lines.old lines.new shelf.old shelf.new result }
 {
     lines.read_text(shelf)?;
     let value = show_line(alloc, lines.text())?;
@@ -74,11 +70,10 @@ fn share_of(auction: &[u8; 16], auditor: u16, show: Show) -> Share
 
 /// Reads a coin's file whole. Malformed carries the number of the first line that isn't what its
 /// place demands.
+#[tactic(auto, using(crate::proofs::Faults::whole_rules))]
 pub fn read_coin<S: Shelf>(alloc: Global, shelf: &mut S, lines: &mut Lines) -> Result<Coin, ReadErr>
-    ensures reads { Reads coin_at S.held S.Shelf.faults
+    ensures reads { ReadsWhole coin_at IsCoin coin_text coin_table S.held S.Shelf.faults
         lines.old lines.new shelf.old shelf.new result }
-    ensures right { IfOk result IsCoin }
-    ensures answers { AnswersWhole IsCoin coin_text coin_table (S.held shelf.old) lines.old result }
 {
     let coin = coin_read(alloc, shelf, lines);
     coin
@@ -87,9 +82,8 @@ pub fn read_coin<S: Shelf>(alloc: Global, shelf: &mut S, lines: &mut Lines) -> R
 /// Reads the lines of a coin in turn.
 #[tactic(auto, unfolding(crate::specs::Reading::coin_at))]
 fn coin_read<S: Shelf>(alloc: Global, shelf: &mut S, lines: &mut Lines) -> Result<Coin, ReadErr>
-    ensures reads { Reads coin_at S.held S.Shelf.faults
+    ensures reads { ReadsRight coin_at IsCoin S.held S.Shelf.faults
         lines.old lines.new shelf.old shelf.new result }
-    ensures right { IfOk result IsCoin }
 {
     lines.read_fixed(shelf, b"vickrey-coin 1")?;
     let auction = lines.read_id(shelf, b"auction")?;
@@ -198,9 +192,8 @@ fn read_shown<S: Shelf>(
     bits: u32,
     auditor: u16,
 ) -> Result<Share, ReadErr>
-    ensures reads { Reads (shown_at auction.now bits auditor) S.held S.Shelf.faults
-        lines.old lines.new shelf.old shelf.new result }
-    ensures right { IfOk result (IsShareOf auction.now bits auditor) }
+    ensures reads { ReadsRight (shown_at auction.now bits auditor) (IsShareOf auction.now bits auditor)
+        S.held S.Shelf.faults lines.old lines.new shelf.old shelf.new result }
 {
     lines.read_text(shelf)?;
     let value = shown_line(alloc, bits, auditor, lines.text())?;

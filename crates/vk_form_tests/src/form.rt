@@ -1,6 +1,6 @@
 // The head of a sum file.
 ghost use Rattle.std.specs.Prelude.{◌≡◌, IfOk};
-ghost use Rattle.vk_lines.specs.Lines.{Reads};
+ghost use Rattle.vk_lines.specs.Lines.{ReadsRight};
 ghost use Rattle.vk_form_tests.specs.Forms.{IsSumHead, sum_head_at, sum_head_text};
 
 use std::alloc::Global;
@@ -21,9 +21,8 @@ impl SumHead {
     /// first line that isn't what its place demands.
     #[tactic(auto, unfolding(crate::specs::Forms::sum_head_at))]
     pub fn read<S: Shelf>(shelf: &mut S, lines: &mut Lines) -> Result<SumHead, ReadErr>
-        ensures reads { Reads sum_head_at S.held S.Shelf.faults
+        ensures reads { ReadsRight sum_head_at IsSumHead S.held S.Shelf.faults
             lines.old lines.new shelf.old shelf.new result }
-        ensures right { IfOk result IsSumHead }
     {
         lines.read_fixed(shelf, b"sum-file 1")?;
         let auction = lines.read_id(shelf, b"auction")?;

@@ -171,68 +171,53 @@ whole_end z = record {
 -- ---- parts one after another: `show` gives the first part's value from the whole value
 
 -- where a part and what is read behind it gave a value, the part stood in front
-then_shown : {X Z : Type 0} {IsX : X → Type 0} {text_x : X → List ℕ}
-    {read_x : Rest → Result (X × Rest) ℕ} (read_z : X → Rest → Result (Z × Rest) ℕ)
-    → IsPart IsX text_x read_x
-    → (rest : Rest) (z : Z) (end : Rest) → (read_x rest >>= λ p. read_z p.0 p.1) ≡ Ok (z, end)
-    → (x : X) × (middle : Rest) × (read_z x middle ≡ Ok (z, end)) × IsX x
-    × (rest.left ≡ text_x x ++ middle.left)
-then_shown {read_x = read_x} read_z part rest z end some =
+then_shown : {X Z : Type 0} {IsX : X → Type 0} {IsZ : X → Z → Type 0} {text_x : X → List ℕ}
+    {read_x : Rest → Result (X × Rest) ℕ} (read_z : X → Rest → Result (Z × Rest) ℕ) (show : Z → X)
+    → IsPart IsX text_x read_x → ((x : X) (z : Z) → IsZ x z → show z ≡ x)
+    → (behind : X → List ℕ) (z : Z) (end : Rest)
+    → ((x : X) → IsX x → (middle : Rest) → read_z x middle ≡ Ok (z, end)
+    → IsZ x z × (middle.left ≡ behind x))
+    → (rest : Rest) → (read_x rest >>= λ p. read_z p.0 p.1) ≡ Ok (z, end)
+    → (IsX (show z) × IsZ (show z) z) × (rest.left ≡ text_x (show z) ++ behind (show z))
+then_shown {X} {Z} {IsX} {IsZ} {text_x} {read_x} read_z show part shows behind z end told rest some =
     let first = bind_ok (read_x rest) (λ p. read_z p.0 p.1) (z, end) some in
     let is = part.shown rest first.0.0 first.0.1 first.1 in
-    (first.0.0, first.0.1, first.2, is.0, is.1)
+    let next = told first.0.0 is.0 first.0.1 first.2 in
+    let P : X → Type 0 = λ x. (IsX x × IsZ x z) × (rest.left ≡ text_x x ++ behind x) in
+    subst P (sym (shows first.0.0 z next.0))
+    ((is.0, next.0), is.1 ∙ ap (λ more. text_x first.0.0 ++ more) next.1)
 
-pub whole_then : {X Z : Type 0} {IsX : X → Type 0} {IsZ : X → Z → Type 0} {text_x : X → List ℕ}
-    {text_z : X → Z → List ℕ} {read_x : Rest → Result (X × Rest) ℕ}
-    {read_z : X → Rest → Result (Z × Rest) ℕ}
-    → (show : Z → X) → IsPart IsX text_x read_x
-    → ((x : X) → IsX x → IsWhole (IsZ x) (text_z x) (read_z x))
-    → ((x : X) (z : Z) → IsZ x z → show z ≡ x)
-    → IsWhole (λ z. IsX (show z) × IsZ (show z) z) (λ z. text_x (show z) ++ text_z (show z) z)
-    (λ rest. read_x rest >>= λ p. read_z p.0 p.1)
-whole_then {X = X} {IsX = IsX} {IsZ = IsZ} {text_x = text_x} {text_z = text_z} {read_x = read_x}
-    {read_z = read_z} show part after shows = record {
-      found = λ rest z is left.
-          let first = part.found rest (show z) (text_z (show z) z) is.0 left in
-          let next = (after (show z) is.0).found
-          (record { taken = first.0; left = text_z (show z) z })
-          z is.1 refl in
-          (next.0, ap (λ r. r >>= λ p. read_z p.0 p.1) first.1 ∙ next.1);
-      shown = λ rest z end some.
-          let first = then_shown read_z part rest z end some in
-          let next = (after first.0 first.3).shown first.1 z end first.2 in
-          let P : X → Type 0 = λ x. (IsX x × IsZ x z) × (rest.left ≡ text_x x ++ text_z x z) in
-          subst P (sym (shows first.0 z next.0))
-          ((first.3, next.0), first.4 ∙ ap (λ more. text_x first.0 ++ more) next.1);
-    }
+module _ {X Z : Type 0} {IsX : X → Type 0} {IsZ : X → Z → Type 0} {text_x : X → List ℕ} {text_z : X → Z → List ℕ} {read_x : Rest → Result (X × Rest) ℕ} {read_z : X → Rest → Result (Z × Rest) ℕ} (show : Z → X) (part : IsPart IsX text_x read_x) where
+  pub whole_then : ((x : X) → IsX x → IsWhole (IsZ x) (text_z x) (read_z x))
+      → ((x : X) (z : Z) → IsZ x z → show z ≡ x)
+      → IsWhole (λ z. IsX (show z) × IsZ (show z) z) (λ z. text_x (show z) ++ text_z (show z) z)
+      (λ rest. read_x rest >>= λ p. read_z p.0 p.1)
+  whole_then after shows = record {
+    found = λ rest z is left.
+        let first = part.found rest (show z) (text_z (show z) z) is.0 left in
+        let next = (after (show z) is.0).found
+        (record { taken = first.0; left = text_z (show z) z }) z is.1 refl in
+        (next.0, ap (λ r. r >>= λ p. read_z p.0 p.1) first.1 ∙ next.1);
+    shown = λ rest z end. then_shown read_z show part shows (λ x. text_z x z) z end
+        (λ x is middle. (after x is).shown middle z end) rest;
+  }
 
-pub part_then : {X Z : Type 0} {IsX : X → Type 0} {IsZ : X → Z → Type 0} {text_x : X → List ℕ}
-    {text_z : X → Z → List ℕ} {read_x : Rest → Result (X × Rest) ℕ}
-    {read_z : X → Rest → Result (Z × Rest) ℕ}
-    → (show : Z → X) → IsPart IsX text_x read_x
-    → ((x : X) → IsX x → IsPart (IsZ x) (text_z x) (read_z x))
-    → ((x : X) (z : Z) → IsZ x z → show z ≡ x)
-    → IsPart (λ z. IsX (show z) × IsZ (show z) z) (λ z. text_x (show z) ++ text_z (show z) z)
-    (λ rest. read_x rest >>= λ p. read_z p.0 p.1)
-part_then {X = X} {IsX = IsX} {IsZ = IsZ} {text_x = text_x} {text_z = text_z} {read_x = read_x}
-    {read_z = read_z} show part after shows = record {
-      found = λ rest z more is left.
-          let first = part.found rest (show z) (text_z (show z) z ++ more) is.0
-          (left ∙ append_assoc (text_x (show z)) (text_z (show z) z) more) in
-          let next = (after (show z) is.0).found
-          (record { taken = first.0; left = text_z (show z) z ++ more }) z more is.1 refl in
-          (next.0, ap (λ r. r >>= λ p. read_z p.0 p.1) first.1 ∙ next.1);
-      shown = λ rest z end some.
-          let first = then_shown read_z part rest z end some in
-          let next = (after first.0 first.3).shown first.1 z end first.2 in
-          let P : X → Type 0 = λ x. (IsX x × IsZ x z)
-          × (rest.left ≡ (text_x x ++ text_z x z) ++ end.left) in
-          subst P (sym (shows first.0 z next.0)) (
-            (first.3, next.0),
-            first.4 ∙ ap (λ more. text_x first.0 ++ more) next.1
-                ∙ sym (append_assoc (text_x first.0) (text_z first.0 z) end.left),
-          );
-    }
+  pub part_then : ((x : X) → IsX x → IsPart (IsZ x) (text_z x) (read_z x))
+      → ((x : X) (z : Z) → IsZ x z → show z ≡ x)
+      → IsPart (λ z. IsX (show z) × IsZ (show z) z) (λ z. text_x (show z) ++ text_z (show z) z)
+      (λ rest. read_x rest >>= λ p. read_z p.0 p.1)
+  part_then after shows = record {
+    found = λ rest z more is left.
+        let first = part.found rest (show z) (text_z (show z) z ++ more) is.0
+        (left ∙ append_assoc (text_x (show z)) (text_z (show z) z) more) in
+        let next = (after (show z) is.0).found
+        (record { taken = first.0; left = text_z (show z) z ++ more }) z more is.1 refl in
+        (next.0, ap (λ r. r >>= λ p. read_z p.0 p.1) first.1 ∙ next.1);
+    shown = λ rest z end some.
+        let all = then_shown read_z show part shows (λ x. text_z x z ++ end.left) z end
+        (λ x is middle. (after x is).shown middle z end) rest some in
+        (all.0, all.1 ∙ sym (append_assoc (text_x (show z)) (text_z (show z) z) end.left));
+  }
 
 -- the value where its parts were read
 pub part_done : {Z : Type 0} (z : Z) → IsPart (λ y. y ≡ z) (λ _. []) (λ rest. Ok (z, rest))

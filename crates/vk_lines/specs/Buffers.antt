@@ -1,9 +1,12 @@
 -- The body of a reader of lines: the bytes that it holds, and what they show of its file.
-use Rattle.std.specs.Prelude.{◌≡◌, ℕ, ◌+◌, ◌≤◌, ◌⊎◌, List, ◌++◌, take, drop}
+use Rattle.std.specs.Prelude.{◌≡◌, ℕ, ◌+◌, ◌≤◌, ◌⊎◌, List, ◌++◌, Option, Result, take, drop}
+use Rattle.vk_io.specs.declared.errors.OutsideErr.{OutsideErr}
+use Rattle.vk_io.specs.declared.errors.OutsideErr.TheVariants.{Failed, NoMemory}
+use Rattle.vk_io.specs.Faults.{Causes}
 use Rattle.vk_io.specs.Files.{Files}
 use Rattle.vk_lines.specs.declared.step.Step.{Step}
 use Rattle.vk_lines.specs.declared.step.Step.TheVariants.{Text, End, Long, Cut}
-use Rattle.vk_lines.specs.Lines.{LinesValue, feed_at, rest_of}
+use Rattle.vk_lines.specs.Lines.{LinesValue, OnlyReads, feed_at, rest_of}
 
 -- the last line taken, the bytes that were read behind it, and how many more there is room for
 pub record BufferValue : Type 0 where
@@ -49,3 +52,10 @@ after_step Text lines = record lines {
 after_step End lines = lines
 after_step Long lines = lines
 after_step Cut lines = lines
+
+-- a call that only reads from a shelf and takes no memory: each refusal is the shelf's own, which
+-- counts it
+pub record OnlyAsks {S T : Type 0} (modelled : S → Option Files) (faults wanted : S → ℕ)
+    (result : Result T OutsideErr) (before after : S) : Type 0 where
+  pub shelf : OnlyReads modelled faults Failed result before after
+  pub wants : Causes NoMemory result (wanted before) (wanted after)

@@ -1,12 +1,12 @@
 -- A form of file, said three ways that agree: the text of a value, what is read, and the first line
 -- that isn't as its place demands.
-use Rattle.std.specs.Prelude.{◌≡◌, ◌↔◌, ℕ, ◌+◌, ◌≤◌, ◌==◌, ◌&&◌, ◌<◌, slice_index_or, nat_lt, zero, suc, Bool, true, if◌then◌else◌, List, [], ◌∷◌, ◌++◌, length, Option, Some, None, Result, Ok, Err, IfSome}
+use Rattle.std.specs.Prelude.{◌≡◌, ◌↔◌, ℕ, ◌+◌, ◌≤◌, ◌==◌, ◌&&◌, ◌<◌, slice_index_or, nat_lt, zero, suc, Bool, true, if◌then◌else◌, List, [], ◌∷◌, ◌++◌, length, Option, Some, None, Result, Ok, Err, IfSome, IfOk}
 use Rattle.std.specs.List.{list_all, slice_split, join_with_byte}
 use Rattle.vk_residue.specs.Steps.{◌>>=◌}
 use Rattle.vk_io.specs.Files.{Files}
 use Rattle.vk_lines.specs.declared.errors.ReadErr.{ReadErr}
 use Rattle.vk_lines.specs.declared.errors.ReadErr.TheVariants.{Malformed, Failed, NoMemory}
-use Rattle.vk_lines.specs.Lines.{Rest, LinesValue, rest_of}
+use Rattle.vk_lines.specs.Lines.{KeepsFile, LinesValue, OnlyReads, ReadsPart, Rest, rest_of}
 use Rattle.vk_lines.specs.Tokens.{hex_text}
 
 -- ---- the text of a value, and what is read
@@ -170,3 +170,15 @@ AnswersWhole {X = X} IsValue text table held lines result =
     IfSome held (λ files. (bytes : List ℕ)
     → rest_of lines files ≡ record { taken = 0; left = bytes }
     → Answers IsValue text table (λ (x : X). x) bytes result)
+
+-- what a reader of a whole file promises: what every reader of right values does, and what it
+-- answers by the texts and the table alone
+pub record ReadsWhole {Place X S : Type 0} (read : Rest → Result (X × Rest) ℕ)
+    (IsValue : X → Type 0) (text : X → List ℕ) (table : Table Place) (held : S → Option Files)
+    (faults : S → ℕ) (old new : LinesValue) (before after : S) (result : Result X ReadErr)
+    : Type 0 where
+  pub modelled : ReadsPart read (held before) old new result
+  pub file : KeepsFile old new
+  pub shelf : OnlyReads held faults Failed result before after
+  pub right : IfOk result IsValue
+  pub answers : AnswersWhole IsValue text table (held before) old result

@@ -1,5 +1,5 @@
 -- Files as lines: what is left of a file, its next line, and how a form is read line by line.
-use Rattle.std.specs.Prelude.{◌≡◌, ◌≢◌, ℕ, ◌+◌, ◌-◌, ◌^◌, ◌==◌, ◌<◌, ◌≤◌, nat_lt, min, Bool, true, false, if◌then◌else◌, List, [], length, unwrap_or, take, drop, Option, Some, None, Result, Ok, Err, codes, IsSome, IfSome, ◌++◌}
+use Rattle.std.specs.Prelude.{◌≡◌, ◌≢◌, ℕ, ◌+◌, ◌-◌, ◌^◌, ◌==◌, ◌<◌, ◌≤◌, nat_lt, min, Bool, true, false, if◌then◌else◌, List, [], length, unwrap_or, take, drop, Option, Some, None, Result, Ok, Err, codes, IsSome, IfSome, IfOk, ◌++◌}
 use Rattle.std.specs.List.{position_or_len}
 use Rattle.std.specs.FinMap.{get}
 use Rattle.vk_residue.specs.Steps.{◌>>=◌}
@@ -171,6 +171,15 @@ pub record Reads {X S : Type 0} (read : Rest → Result (X × Rest) ℕ) (held :
   pub modelled : ReadsPart read (held before) old new result
   pub file : KeepsFile old new
   pub shelf : OnlyReads held faults Failed result before after
+
+-- the same of a reader of values, which says besides what is true of each that it answers
+pub record ReadsRight {X S : Type 0} (read : Rest → Result (X × Rest) ℕ) (IsValue : X → Type 0)
+    (held : S → Option Files) (faults : S → ℕ) (old new : LinesValue) (before after : S)
+    (result : Result X ReadErr) : Type 0 where
+  pub modelled : ReadsPart read (held before) old new result
+  pub file : KeepsFile old new
+  pub shelf : OnlyReads held faults Failed result before after
+  pub right : IfOk result IsValue
 
 -- what a reader that takes no memory promises besides: only the shelf answers want of it, and each
 -- such answer is counted

@@ -1,8 +1,6 @@
 ghost use Rattle.std.specs.Prelude.{◌≡◌, ◌+◌, ◌<◌, ◌≤◌, ◌++◌, [], length, take, drop, IfSome, IfOk, OnErr};
-ghost use Rattle.vk_io.specs.Faults.{Causes};
 ghost use Rattle.vk_io.specs.Files.{bytes_of, part_of};
-ghost use Rattle.vk_io.specs.Reads.{OnlyReads};
-ghost use Rattle.vk_lines.specs.Buffers.{IsEnough};
+ghost use Rattle.vk_lines.specs.Buffers.{IsEnough, OnlyAsks};
 ghost use Rattle.vk_io.specs.declared.errors.OutsideErr.TheVariants.{Failed};
 
 use std::marker::Model;
@@ -96,10 +94,7 @@ impl Buffer {
             (λ asked. length self.new.ahead ≤ length self.old.ahead + asked) }
         ensures text { self.new.text ≡ self.old.text }
         ensures refused { OnErr result (self.new.ahead ≡ self.old.ahead) }
-        ensures shelf { OnlyReads S.held S.Shelf.faults OutsideErr.Failed result shelf.old
-            shelf.new }
-        ensures wants { Causes OutsideErr.NoMemory result (S.Shelf.wants shelf.old)
-            (S.Shelf.wants shelf.new) }
+        ensures asks { OnlyAsks S.held S.Shelf.faults S.Shelf.wants result shelf.old shelf.new }
     {
         let room = self.make_room(left);
         if room == 0 {
@@ -163,10 +158,7 @@ impl Buffer {
         ensures within { length self.new.ahead ≤ length self.old.ahead + room }
         ensures text { self.new.text ≡ self.old.text }
         ensures refused { OnErr result (self.new.ahead ≡ self.old.ahead) }
-        ensures shelf { OnlyReads S.held S.Shelf.faults OutsideErr.Failed result shelf.old
-            shelf.new }
-        ensures wants { Causes OutsideErr.NoMemory result (S.Shelf.wants shelf.old)
-            (S.Shelf.wants shelf.new) }
+        ensures asks { OnlyAsks S.held S.Shelf.faults S.Shelf.wants result shelf.old shelf.new }
     {
         let count = read_behind(shelf, name, at, &mut self.bytes, self.end, room)?;
         self.end += count;
@@ -189,9 +181,7 @@ fn read_behind<S: Shelf>(
     ensures modelled { IfSome (S.held shelf.old) (λ files.
         IfOk result (λ count. take count (drop end bytes.new)
         ≡ part_of (bytes_of files name.now) at room)) }
-    ensures shelf { OnlyReads S.held S.Shelf.faults OutsideErr.Failed result shelf.old shelf.new }
-    ensures wants { Causes OutsideErr.NoMemory result (S.Shelf.wants shelf.old)
-        (S.Shelf.wants shelf.new) }
+    ensures asks { OnlyAsks S.held S.Shelf.faults S.Shelf.wants result shelf.old shelf.new }
 {
     let count = shelf.read_at(name, at, &mut bytes[end..end + room])?;
     Ok(count)

@@ -5,7 +5,7 @@ ghost use Rattle.vk_io.specs.Faults.{Causes, MayCause};
 ghost use Rattle.vk_io.specs.Files.{Files, bytes_of, part_of};
 ghost use Rattle.vk_io.specs.declared.errors.OutsideErr.{OutsideErr};
 ghost use Rattle.vk_lines.specs.Tokens.{word_of, number_line, id_line};
-ghost use Rattle.vk_lines.specs.Buffers.{HasLooked, after_step};
+ghost use Rattle.vk_lines.specs.Buffers.{HasLooked, OnlyAsks, after_step};
 ghost use Rattle.vk_lines.specs.Lines.{Starts, KeepsFile, IsBefore, IsBegun, IsBegunBy, refusal_of, GivesReading, Reads, ReadsFreely, IsNext, LinesValue, OnlyReads, line_by, text_at, rest_of, unread, feed_at, step_by, step_of, none_left, value_at, is_text, is_end, answer_by, end_at};
 
 use crate::buffer::{Buffer, MOST_LINE};
@@ -104,10 +104,7 @@ impl Lines {
             (λ step. step ≡ Step.Text → self.new.taken ≡ self.old.taken + 1) }
         ensures within { unread self.new ≤ self.new.size }
         ensures refused { OnErr result (self.new ≡ self.old) }
-        ensures shelf { OnlyReads S.held S.Shelf.faults OutsideErr.Failed result shelf.old
-            shelf.new }
-        ensures wants { Causes OutsideErr.NoMemory result (S.Shelf.wants shelf.old)
-            (S.Shelf.wants shelf.new) }
+        ensures asks { OnlyAsks S.held S.Shelf.faults S.Shelf.wants result shelf.old shelf.new }
     {
         self.look_ahead(shelf)?;
         let step = self.take_next();
@@ -123,10 +120,7 @@ impl Lines {
         ensures text { self.new.text ≡ self.old.text }
         ensures within { unread self.new ≤ self.new.size }
         ensures refused { OnErr result (self.new ≡ self.old) }
-        ensures shelf { OnlyReads S.held S.Shelf.faults OutsideErr.Failed result shelf.old
-            shelf.new }
-        ensures wants { Causes OutsideErr.NoMemory result (S.Shelf.wants shelf.old)
-            (S.Shelf.wants shelf.new) }
+        ensures asks { OnlyAsks S.held S.Shelf.faults S.Shelf.wants result shelf.old shelf.new }
     {
         let at = self.unread();
         let left = self.bytes_left();

@@ -5,6 +5,7 @@ use Rattle.vk_lines.specs.Forms.{IsWhole, FindsFaults, fault_line, whole}
 use Rattle.vk_lines.proofs.Words.{fixed_line}
 use Rattle.vk_lines.proofs.Parts.{line_part, whole_then, whole_end, whole_same}
 use Rattle.vk_lines.proofs.Faults.{line_follows, ends_then, end_ends, ends_done, fault_line_is}
+use Rattle.vk_lines.proofs.Modelled.{reads_whole}
 use Rattle.vk_reply.specs.declared.challenge.Challenge.{Challenge}
 use Rattle.vk_reply.specs.Values.{IsChallenge}
 use Rattle.vk_reply.specs.Texts.{challenge_text}
@@ -42,3 +43,6 @@ challenge_ends =
 pub challenge_fault : (bytes : List ℕ)
     → fault_line challenge_table bytes ≡ result_err (whole challenge_at bytes)
 challenge_fault bytes = fault_line_is challenge_table challenge_at challenge_ends bytes
+
+-- what a whole challenge is read by
+pub ruleset whole_rules = (reads_whole, challenge_is_whole, challenge_ends)

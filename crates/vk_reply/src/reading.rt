@@ -1,6 +1,6 @@
 ghost use Rattle.std.specs.Prelude.{length, ◌≡◌, ◌<◌, ◌≤◌, slice_index_or, IfSome, IfOk};
-ghost use Rattle.vk_lines.specs.Forms.{AnswersWhole};
-ghost use Rattle.vk_lines.specs.Lines.{Reads, line_by};
+ghost use Rattle.vk_lines.specs.Forms.{ReadsWhole};
+ghost use Rattle.vk_lines.specs.Lines.{Reads, ReadsRight, line_by};
 ghost use Rattle.vk_plan.specs.declared.wire.WireKind.TheVariants.{Split};
 ghost use Rattle.vk_reply.specs.Values.{AreShown, IsChallenge, IsShown};
 ghost use Rattle.vk_reply.specs.Texts.{challenge_text};
@@ -21,16 +21,14 @@ use vk_wire::Shown;
 
 /// Reads a challenge's file whole. Malformed carries the number of the first line that isn't what
 /// its place demands.
+#[tactic(auto, using(crate::proofs::Challenges::whole_rules))]
 pub fn read_challenge<S: Shelf>(
     alloc: Global,
     shelf: &mut S,
     lines: &mut Lines,
 ) -> Result<Challenge, ReadErr>
-    ensures reads { Reads challenge_at S.held S.Shelf.faults
+    ensures reads { ReadsWhole challenge_at IsChallenge challenge_text challenge_table S.held S.Shelf.faults
         lines.old lines.new shelf.old shelf.new result }
-    ensures answers { AnswersWhole IsChallenge challenge_text challenge_table (S.held shelf.old)
-        lines.old result }
-    ensures right { IfOk result IsChallenge }
 {
     let challenge = challenge_read(alloc, shelf, lines);
     challenge
@@ -43,9 +41,8 @@ fn challenge_read<S: Shelf>(
     shelf: &mut S,
     lines: &mut Lines,
 ) -> Result<Challenge, ReadErr>
-    ensures reads { Reads challenge_at S.held S.Shelf.faults
+    ensures reads { ReadsRight challenge_at IsChallenge S.held S.Shelf.faults
         lines.old lines.new shelf.old shelf.new result }
-    ensures right { IfOk result IsChallenge }
 {
     lines.read_fixed(shelf, b"vickrey-challenge 1")?;
     let bits = read_bits(alloc, shelf, lines)?;
@@ -85,9 +82,8 @@ fn read_bits<S: Shelf>(
 /// carries the number of the first line that isn't what its place demands.
 #[tactic(auto, unfolding(crate::specs::Reading::reply_head_at))]
 pub fn read_reply_head<S: Shelf>(shelf: &mut S, lines: &mut Lines) -> Result<u32, ReadErr>
-    ensures reads { Reads reply_head_at S.held S.Shelf.faults
-        lines.old lines.new shelf.old shelf.new result }
-    ensures right { IfOk result (λ lanes. (1 ≤ lanes) × (lanes ≤ 64)) }
+    ensures reads { ReadsRight reply_head_at (λ lanes. (1 ≤ lanes) × (lanes ≤ 64))
+        S.held S.Shelf.faults lines.old lines.new shelf.old shelf.new result }
 {
     lines.read_fixed(shelf, b"vickrey-reply 1")?;
     let count = lines.read_number(shelf, b"lanes", 1, 64)?;
@@ -106,9 +102,8 @@ pub fn read_reply_lane<S: Shelf>(
     plan: &Plan,
     bit: bool,
 ) -> Result<Seq<Shown>, ReadErr>
-    ensures reads { Reads (reply_lane_at lane plan.now.kinds bit) S.held S.Shelf.faults
-        lines.old lines.new shelf.old shelf.new result }
-    ensures right { IfOk result (AreShown plan.now.kinds bit) }
+    ensures reads { ReadsRight (reply_lane_at lane plan.now.kinds bit) (AreShown plan.now.kinds bit)
+        S.held S.Shelf.faults lines.old lines.new shelf.old shelf.new result }
 {
     lines.read_number(shelf, b"lane", u64::from(lane), u64::from(lane))?;
     let shown = read_wires(alloc, shelf, lines, plan, bit)?;
@@ -123,9 +118,8 @@ fn read_wires<S: Shelf>(
     plan: &Plan,
     bit: bool,
 ) -> Result<Seq<Shown>, ReadErr>
-    ensures reads { Reads (wires_at plan.now.kinds bit) S.held S.Shelf.faults
-        lines.old lines.new shelf.old shelf.new result }
-    ensures right { IfOk result (AreShown plan.now.kinds bit) }
+    ensures reads { ReadsRight (wires_at plan.now.kinds bit) (AreShown plan.now.kinds bit)
+        S.held S.Shelf.faults lines.old lines.new shelf.old shelf.new result }
 {
     let shown = read_many(alloc, shelf, lines, &WireLine { plan, bit }, plan.wires());
     shown

@@ -10,6 +10,7 @@ use Rattle.vk_lines.specs.Tokens.{id_line, number_line, word_of}
 use Rattle.vk_lines.proofs.Words.{decimal_token, hex_token, number_line_is, id_line_is, digests_line_is, three_line, line_same, from_test, to_test, below_from, below_to}
 use Rattle.vk_lines.proofs.Parts.{line_part, many_part, part_headed, part_then, part_last, part_same, whole_then, whole_last, whole_end, whole_same, each_from_all, all_from_each}
 use Rattle.vk_lines.proofs.Faults.{line_follows, many_follows, follows_then, follows_done, ends_then, ends_made, end_ends, ends_done, fault_line_is}
+use Rattle.vk_lines.proofs.Modelled.{reads_whole}
 use Rattle.vk_wire.specs.Coms.{com_by}
 use Rattle.vk_wire.specs.Values.{IsCom}
 use Rattle.vk_seal.specs.Values.{IsSeal, IsSecret, IsXTape}
@@ -197,3 +198,6 @@ secret_ends =
 pub secret_fault : (bytes : List ℕ)
     → fault_line secret_table bytes ≡ result_err (whole secret_at bytes)
 secret_fault bytes = fault_line_is secret_table secret_at secret_ends bytes
+
+-- what each whole file is read by
+pub ruleset whole_rules = (reads_whole, seal_is_whole, seal_ends, secret_is_whole, secret_ends)

@@ -3,8 +3,8 @@ ghost use Rattle.std.specs.List.{All};
 ghost use Rattle.vk_commit.specs.Values.{AreBytes};
 ghost use Rattle.vk_wire.specs.Values.{IsCom};
 ghost use Rattle.vk_seal.specs.Values.{IsSeal, IsSecret, IsXTape};
-ghost use Rattle.vk_lines.specs.Forms.{AnswersWhole, EachNumbered};
-ghost use Rattle.vk_lines.specs.Lines.{Reads};
+ghost use Rattle.vk_lines.specs.Forms.{EachNumbered, ReadsWhole};
+ghost use Rattle.vk_lines.specs.Lines.{Reads, ReadsRight};
 ghost use Rattle.vk_seal.specs.Texts.{seal_text, secret_text};
 ghost use Rattle.vk_seal.specs.Tables.{seal_table, secret_table};
 ghost use Rattle.vk_seal.specs.Reading.{com_at, seat_at, lanes_at, seal_at, secret_at};
@@ -25,11 +25,10 @@ const MOST_BID: u64 = (1 << 40) - 1;
 
 /// Reads a seal's file whole. Malformed carries the number of the first line that isn't what its
 /// place demands.
+#[tactic(auto, using(crate::proofs::Forms::whole_rules))]
 pub fn read_seal<S: Shelf>(alloc: Global, shelf: &mut S, lines: &mut Lines) -> Result<Seal, ReadErr>
-    ensures reads { Reads seal_at S.held S.Shelf.faults
+    ensures reads { ReadsWhole seal_at IsSeal seal_text seal_table S.held S.Shelf.faults
         lines.old lines.new shelf.old shelf.new result }
-    ensures answers { AnswersWhole IsSeal seal_text seal_table (S.held shelf.old) lines.old result }
-    ensures right { IfOk result IsSeal }
 {
     let seal = seal_read(alloc, shelf, lines);
     seal
@@ -38,9 +37,8 @@ pub fn read_seal<S: Shelf>(alloc: Global, shelf: &mut S, lines: &mut Lines) -> R
 /// Reads the lines of a seal in turn.
 #[tactic(auto, unfolding(crate::specs::Reading::seal_at))]
 fn seal_read<S: Shelf>(alloc: Global, shelf: &mut S, lines: &mut Lines) -> Result<Seal, ReadErr>
-    ensures reads { Reads seal_at S.held S.Shelf.faults
+    ensures reads { ReadsRight seal_at IsSeal S.held S.Shelf.faults
         lines.old lines.new shelf.old shelf.new result }
-    ensures right { IfOk result IsSeal }
 {
     let (auction, seat) = read_seat(shelf, lines, b"vickrey-seal 1")?;
     let lanes = read_coms(alloc, shelf, lines)?;
@@ -124,16 +122,14 @@ fn read_lanes<S: Shelf, K: LineKind>(
 
 /// Reads a secret's file whole. Malformed carries the number of the first line that isn't what its
 /// place demands.
+#[tactic(auto, using(crate::proofs::Forms::whole_rules))]
 pub fn read_secret<S: Shelf>(
     alloc: Global,
     shelf: &mut S,
     lines: &mut Lines,
 ) -> Result<Secret, ReadErr>
-    ensures reads { Reads secret_at S.held S.Shelf.faults
+    ensures reads { ReadsWhole secret_at IsSecret secret_text secret_table S.held S.Shelf.faults
         lines.old lines.new shelf.old shelf.new result }
-    ensures answers { AnswersWhole IsSecret secret_text secret_table (S.held shelf.old) lines.old
-        result }
-    ensures right { IfOk result IsSecret }
 {
     let secret = secret_read(alloc, shelf, lines);
     secret
@@ -142,9 +138,8 @@ pub fn read_secret<S: Shelf>(
 /// Reads the lines of a secret in turn.
 #[tactic(auto, unfolding(crate::specs::Reading::secret_at))]
 fn secret_read<S: Shelf>(alloc: Global, shelf: &mut S, lines: &mut Lines) -> Result<Secret, ReadErr>
-    ensures reads { Reads secret_at S.held S.Shelf.faults
+    ensures reads { ReadsRight secret_at IsSecret S.held S.Shelf.faults
         lines.old lines.new shelf.old shelf.new result }
-    ensures right { IfOk result IsSecret }
 {
     let (auction, seat) = read_seat(shelf, lines, b"vickrey-secret 1")?;
     let bid = lines.read_number(shelf, b"bid", 0, MOST_BID)?;

@@ -36,14 +36,11 @@ loop-index-preserved g c =
       room = omega (arith, l.invariant.room, c.in_ok-push.ensures.capacity);
       right = rw c.in_ok-push.ensures.items
           (each_push (IsSealAfter c.args.lanes) [] l.seals.items c.in_ok-seal.seal
-          l.invariant.right (subst R c.as_slice.ensures.value c.in_ok-seal.ensures.right));
+          l.invariant.right (subst R c.as_slice.ensures.value c.in_ok-seal.ensures.reads.right));
       held = c.in_ok-seal.ensures.reads.shelf.held ∙ l.invariant.held;
       kept = c.in_ok-seal.ensures.reads.shelf.causes ∙ l.invariant.kept;
       wants = c.in_ok-seal.ensures.wants ∙ l.invariant.wants;
-      file = record {
-        name = c.in_ok-seal.ensures.reads.file.name ∙ l.invariant.file.name;
-        size = c.in_ok-seal.ensures.reads.file.size ∙ l.invariant.file.size;
-      };
+      file = search rules;
     }
 
 pub loop-index-init : goal.loop-index-init
@@ -78,6 +75,7 @@ returns-in_err-seal-clause-reads g c =
           (subst P c.as_slice.ensures.value c.in_err-seal.ensures.reads.modelled);
       file = search rules;
       shelf = search rules;
+      right = search rules;
     }
 
 pub returns-in_err-seal-clause-behind : goal.returns-in_err-seal-clause-behind

@@ -46,11 +46,8 @@ loop-index-preserved g c = record {
       (λ files. rest_of c.loop-index.lines files) (λ files. rest_of c.read_lane.new.lines files)
       c.args.hasher.now c.loop-index.hasher c.hash_lane.new.hasher
       c.loop-index.invariant.held (omega arith) c.loop-index.invariant.lanes
-      c.in_ok-lane.ensures.reads.modelled c.in_ok-lane.ensures.right c.in-Ok.ensures;
-  file = record {
-    name = c.in_ok-lane.ensures.reads.file.name ∙ c.loop-index.invariant.file.name;
-    size = c.in_ok-lane.ensures.reads.file.size ∙ c.loop-index.invariant.file.size;
-  };
+      c.in_ok-lane.ensures.reads.modelled c.in_ok-lane.ensures.reads.right c.in-Ok.ensures;
+  file = search rules;
   held = c.in_ok-lane.ensures.reads.shelf.held ∙ c.loop-index.invariant.held;
   kept = c.in_ok-lane.ensures.reads.shelf.causes ∙ c.loop-index.invariant.kept;
 }

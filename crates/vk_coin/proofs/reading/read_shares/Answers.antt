@@ -37,7 +37,6 @@ returns-in_err-share-clause-reads g c =
 pub loop-index-preserved : goal.loop-index-preserved
 loop-index-preserved g c =
     let l = c.loop-index in
-    let file = c.in_ok-share.ensures.reads.file in
     let P : ℕ → Type 0 = λ n. IsShareOf c.args.auction.now c.args.bits (n + 1) c.in_ok-share.share
     in
     record {
@@ -55,14 +54,10 @@ loop-index-preserved g c =
       right = rw c.in_ok-push.ensures.pushed
           (each_push (λ before. IsShareOf c.args.auction.now c.args.bits (length before + 1)) []
           l.shares c.in_ok-share.share l.invariant.right
-          (subst P c.len.ensures c.in_ok-share.ensures.right));
+          (subst P c.len.ensures c.in_ok-share.ensures.reads.right));
       held = c.in_ok-share.ensures.reads.shelf.held ∙ l.invariant.held;
       kept = c.in_ok-share.ensures.reads.shelf.causes ∙ l.invariant.kept;
-      file = record {
-        name = file.name ∙ l.invariant.file.name;
-        size = file.size
-            ∙ l.invariant.file.size;
-      };
+      file = search rules;
     }
 
 pub returns-clause-reads : goal.returns-clause-reads

@@ -39,7 +39,6 @@ returns-in_err-item-clause-reads g c = record {
 pub loop-number-preserved : goal.loop-number-preserved
 loop-number-preserved g c =
     let l = c.loop-number in
-    let file = c.read_item.ensures.reads.file in
     record {
       modelled = numbered_turn (g.S.Shelf.held c.args.shelf.now) (g.S.Shelf.held l.shelf)
           (λ n. line_by (g.K.LineKind.item_of c.args.kind.now n))
@@ -56,11 +55,7 @@ loop-number-preserved g c =
       each = each_more (g.K.LineKind.is_item c.args.kind.now) l.items.items c.push.new.self.items
           c.in_ok-item.item l.number l.invariant.count c.in_ok-push.ensures.items l.invariant.each
           c.in_ok-item.ensures.right;
-      file = record {
-        name = file.name ∙ l.invariant.file.name;
-        size = file.size
-            ∙ l.invariant.file.size;
-      };
+      file = search rules;
       room = omega (arith, l.invariant.room, c.in_ok-push.ensures.capacity);
       held = c.in_ok-item.ensures.reads.shelf.held ∙ l.invariant.held;
       kept = c.in_ok-item.ensures.reads.shelf.causes ∙ l.invariant.kept;
