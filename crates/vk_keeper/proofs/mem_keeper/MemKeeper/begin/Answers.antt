@@ -8,8 +8,3 @@ pub returns-clause-ledger : goal.returns-clause-ledger
 returns-clause-ledger c =
     subst (λ (seen : MemoryLedger). IsLedger seen.ledger) c.self.view_is
     (ledger_of c.self.inside.auctions.items c.self.invariant.each)
-
-pub returns-in_err-begin-clause-ledger : goal.returns-in_err-begin-clause-ledger
-returns-in_err-begin-clause-ledger c =
-    subst (λ (seen : MemoryLedger). IsLedger seen.ledger) c.self.view_is
-    (ledger_of c.self.inside.auctions.items c.self.invariant.each)
