@@ -192,8 +192,9 @@ fn read_shown<S: Shelf>(
     bits: u32,
     auditor: u16,
 ) -> Result<Share, ReadErr>
-    ensures reads { ReadsRight (shown_at auction.now bits auditor) (IsShareOf auction.now bits auditor)
-        S.held S.Shelf.faults lines.old lines.new shelf.old shelf.new result }
+    ensures reads { ReadsRight (shown_at auction.now bits auditor)
+        (IsShareOf auction.now bits auditor) S.held S.Shelf.faults lines.old lines.new shelf.old
+        shelf.new result }
 {
     lines.read_text(shelf)?;
     let value = shown_line(alloc, bits, auditor, lines.text())?;

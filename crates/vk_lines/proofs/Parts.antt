@@ -179,7 +179,8 @@ then_shown : {X Z : Type 0} {IsX : X → Type 0} {IsZ : X → Z → Type 0} {tex
     → IsZ x z × (middle.left ≡ behind x))
     → (rest : Rest) → (read_x rest >>= λ p. read_z p.0 p.1) ≡ Ok (z, end)
     → (IsX (show z) × IsZ (show z) z) × (rest.left ≡ text_x (show z) ++ behind (show z))
-then_shown {X} {Z} {IsX} {IsZ} {text_x} {read_x} read_z show part shows behind z end told rest some =
+then_shown {X} {Z} {IsX} {IsZ} {text_x} {read_x} read_z show part shows behind z end told rest
+    some =
     let first = bind_ok (read_x rest) (λ p. read_z p.0 p.1) (z, end) some in
     let is = part.shown rest first.0.0 first.0.1 first.1 in
     let next = told first.0.0 is.0 first.0.1 first.2 in

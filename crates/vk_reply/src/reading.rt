@@ -27,8 +27,8 @@ pub fn read_challenge<S: Shelf>(
     shelf: &mut S,
     lines: &mut Lines,
 ) -> Result<Challenge, ReadErr>
-    ensures reads { ReadsWhole challenge_at IsChallenge challenge_text challenge_table S.held S.Shelf.faults
-        lines.old lines.new shelf.old shelf.new result }
+    ensures reads { ReadsWhole challenge_at IsChallenge challenge_text challenge_table
+        S.held S.Shelf.faults lines.old lines.new shelf.old shelf.new result }
 {
     let challenge = challenge_read(alloc, shelf, lines);
     challenge
