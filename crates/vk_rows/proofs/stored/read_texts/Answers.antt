@@ -8,7 +8,8 @@ use Rattle.vk_rows.proofs.stored.read_texts.Goals as goal
 pub returns-clause-seal_text : goal.returns-clause-seal_text
 returns-clause-seal_text c =
     let read : c.read_seal.result ≡ Ok c.in_ok-seal.seal = search rules in
-    (rw read at (c.read_seal.ensures.reads.answers c.args.seal_text.now c.in_ok-shelf.ensures.rest)).1
+    (rw read at (c.read_seal.ensures.reads.answers c.args.seal_text.now
+    c.in_ok-shelf.ensures.rest)).1
 
 pub returns-clause-secret_text : goal.returns-clause-secret_text
 returns-clause-secret_text c =
