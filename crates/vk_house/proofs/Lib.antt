@@ -1,7 +1,6 @@
 pub mod Passing
 pub mod Deciding
 mod Keeping
-mod Wanting
 pub mod Stepping
 pub mod Alone
 pub mod Once

@@ -3,7 +3,6 @@ use Rattle.std.specs.Prelude.{◌≡◌, ◌⊎◌, ℕ, List, Option, Some, Non
 use Rattle.vk_keeper.specs.declared.auction.Auction.{Auction}
 use Rattle.vk_keeper.specs.declared.auction.Phase.{Phase}
 use Rattle.vk_keeper.specs.Auctions.{IsAuction}
-use Rattle.vk_keeper.specs.Ledgers.{Ledger, Keeps}
 use Rattle.vk_keeper.specs.Turns.{Turns, AfterPut}
 use Rattle.vk_job.specs.Jobs.{dry_in, seed_in, sale_in}
 use Rattle.vk_house.specs.declared.errors.HouseErr.{HouseErr}
@@ -22,11 +21,6 @@ Decides shown (Err house.KeeperFailed) step = ⊥
 Decides shown (Err refusal) step = refused refusal ≡ step
 
 -- ---- what a call keeps
-
--- an auction is kept where there is one
-abbrev pub KeepsAnew : {E : Type 0} → Option Auction → Result Unit E → Ledger → Ledger → Type 0
-KeepsAnew None result old new = new ≡ old
-KeepsAnew (Some auction) result old new = Keeps auction result old new
 
 -- there was no call more of the keeper, or one, a `put`
 abbrev pub MayPut : Turns → Turns → Type 0

@@ -1,4 +1,4 @@
-ghost use Rattle.std.specs.Prelude.{◌≡◌, ◌<◌, ◌^◌, IfOk, IfSome, Some};
+ghost use Rattle.std.specs.Prelude.{◌≡◌, ◌<◌, ◌^◌, ℕ, IfOk, IfSome, List, OnErr, Some};
 ghost use Rattle.vk_residue.specs.Limits.{IsSize};
 ghost use Rattle.vk_io.specs.Faults.{Causes};
 ghost use Rattle.vk_io.specs.Files.{Modelled};
@@ -8,8 +8,9 @@ ghost use Rattle.vk_keeper.specs.Auctions.{IsAuction, seed_of, challenge_of};
 ghost use Rattle.vk_house.specs.Answers.{work_of};
 ghost use Rattle.vk_house.specs.Calls.{CallsHouse};
 ghost use Rattle.vk_house.specs.Commands.{Announce, AnnounceReserve, Submit, Prove, Answer, Show};
-ghost use Rattle.vk_house.specs.Deciding.{KeepsAnew, MayPut};
+ghost use Rattle.vk_house.specs.Deciding.{MayPut};
 ghost use Rattle.vk_house.specs.Replies.{Done, Position, Stands};
+ghost use Rattle.vk_house.specs.Steps.{ledger_after};
 
 use crate::errors::HouseErr;
 use crate::opening::{decide_announce, decide_submit};
@@ -148,7 +149,11 @@ impl<'a, K: Keeper + Drop> House<'a, K> {
 /// Keeps the auction, where there is one.
 fn keep<K: Keeper>(keeper: &mut K, kept: Option<Auction>) -> Result<(), OutsideErr>
     requires { IfSome kept IsAuction }
-    ensures put { Modelled (KeepsAnew kept result) (K.ledger keeper.old) (K.ledger keeper.new) }
+    ensures put { (id : List ℕ) → IfSome kept (λ auction. auction.id ≡ id)
+        → IfOk result (λ _. Modelled (λ old new. new ≡ ledger_after old id kept)
+        (K.ledger keeper.old) (K.ledger keeper.new)) }
+    ensures refused { OnErr result
+        (Modelled (λ old new. new ≡ old) (K.ledger keeper.old) (K.ledger keeper.new)) }
     ensures turn { MayPut (K.turns keeper.old) (K.turns keeper.new) }
     ensures causes { Causes OutsideErr.Failed result (K.faults keeper.old) (K.faults keeper.new) }
 {

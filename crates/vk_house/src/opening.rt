@@ -1,6 +1,6 @@
 //! `announce`, `announce_reserve` and `submit`: an auction begins, and takes seals.
 
-ghost use Rattle.std.specs.Prelude.{◌≡◌, ◌+◌, ◌<◌, ◌≤◌, ◌^◌, ℕ, IfNone, IfSome, IfOk, IsErrOf, List, None, Some, length, true, false};
+ghost use Rattle.std.specs.Prelude.{◌≡◌, ◌+◌, ◌<◌, ◌≤◌, ◌^◌, ◌⊎◌, ℕ, IfNone, IfSome, IfOk, IsOk, IsErrOf, List, None, Some, length, true, false};
 ghost use Rattle.std.specs.Result.{result_err};
 ghost use Rattle.vk_residue.specs.Limits.{IsSize};
 ghost use Rattle.vk_seal.specs.Values.{IsSeal, IsSecret};
@@ -47,6 +47,8 @@ pub fn decide_announce(
         (step_at (announcing id.now width lanes reserve) found) }
     ensures right { IfOk result IsAuction }
     ensures id { IfOk result (λ auction. auction.id ≡ id.now) }
+    ensures passes { IfOk result
+        (λ _. refusal_of (announcing id.now width lanes reserve) found ≡ None) }
     ensures memory { IsErrOf result HouseErr.NoMemory → ⊥ }
 {
     if found.is_some() {
@@ -103,7 +105,7 @@ pub fn decide_submit(found: Option<Auction>, seal: Seal, secret: Secret) -> Resu
     ensures id { (id : List ℕ) → IfSome found (λ auction. auction.id ≡ id)
         → IfOk result (λ joined. joined.auction.id ≡ id) }
     ensures inside { IsErrOf result HouseErr.KeeperFailed → ⊥ }
-    ensures memory { (id : List ℕ) → IsErrOf result HouseErr.NoMemory
+    ensures memory { (id : List ℕ) → IsOk result ⊎ IsErrOf result HouseErr.NoMemory
         → refusal_of (Submit id seal secret) found ≡ None }
 {
     let mut auction = found.ok_or(HouseErr::Unknown)?;

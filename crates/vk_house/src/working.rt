@@ -1,6 +1,6 @@
 //! `prove` and `answer`: the work on an auction whose seals are taken.
 
-ghost use Rattle.std.specs.Prelude.{◌≡◌, ◌≤◌, ℕ, IfSome, IfOk, IsErrOf, IsSome, is_some, List, None, Some, length};
+ghost use Rattle.std.specs.Prelude.{◌≡◌, ◌≤◌, ◌⊎◌, ℕ, IfSome, IfOk, IsOk, IsErrOf, IsSome, is_some, List, None, Some, length};
 ghost use Rattle.std.specs.Result.{result_err};
 ghost use Rattle.vk_reply.specs.Values.{IsChallenge};
 ghost use Rattle.vk_keeper.specs.Auctions.{IsAuction, seed_of, challenge_of};
@@ -36,7 +36,8 @@ fn work_in(alloc: Global, mut auction: Auction, phase: Option<Phase>) -> Result<
     ensures kept { IfOk result
         (λ decision. IfSome decision.kept (λ auction. auction ≡ decision.job.auction)) }
     ensures right { IfOk result (λ decision. IfSome decision.kept IsAuction) }
-    ensures memory { IsErrOf result HouseErr.NoMemory → own_dry (phased auction phase) ≡ None }
+    ensures memory { IsOk result ⊎ IsErrOf result HouseErr.NoMemory
+        → own_dry (phased auction phase) ≡ None }
 {
     let is_new = phase.is_some();
     if let Some(phase) = phase {
@@ -97,7 +98,7 @@ pub fn decide_prove(
     ensures inside { IsErrOf result HouseErr.KeeperFailed → ⊥ }
     ensures on { IfOk result (IsDecisionOn found) }
     ensures seed { IfOk result (λ decision. seed_of decision.job.auction.phase ≡ Some seed.now) }
-    ensures memory { (id : List ℕ) → IsErrOf result HouseErr.NoMemory
+    ensures memory { (id : List ℕ) → IsOk result ⊎ IsErrOf result HouseErr.NoMemory
         → refusal_of (Prove id seed.now) found ≡ None }
 {
     let auction = found.ok_or(HouseErr::Unknown)?;
@@ -208,7 +209,7 @@ pub fn decide_answer(
     ensures on { IfOk result (IsDecisionOn found) }
     ensures answered { IfOk result
         (λ decision. challenge_of decision.job.auction.phase ≡ Some challenge.now) }
-    ensures memory { (id : List ℕ) → IsErrOf result HouseErr.NoMemory
+    ensures memory { (id : List ℕ) → IsOk result ⊎ IsErrOf result HouseErr.NoMemory
         → IsDryAtMost (refusal_of (Answer id challenge.now) found) }
 {
     let auction = found.ok_or(HouseErr::Unknown)?;

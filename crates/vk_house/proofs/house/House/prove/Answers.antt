@@ -1,8 +1,7 @@
-use Rattle.std.proofs.Common.{rules}
+use Rattle.std.proofs.Common.{rules, refl, inl}
 use Rattle.vk_house.specs.Answers.{work_of}
 use Rattle.vk_house.specs.Commands.{Prove}
-use Rattle.vk_house.proofs.Keeping.{keep_failed, work_made}
-use Rattle.vk_house.proofs.Wanting.{unrefused}
+use Rattle.vk_house.proofs.Keeping.{keep_failed, own_kept}
 use Rattle.vk_house.proofs.house.House.prove.Goals as goal
 
 pub returns-clause-id : goal.returns-clause-id
@@ -11,9 +10,9 @@ returns-clause-id g c = c.in_ok-proving.ensures.on.id c.args.id.now c.in_ok-get.
 pub returns-clause-call : goal.returns-clause-call
 returns-clause-call g c =
     let decided = c.in_ok-proving.ensures.decided c.args.id.now in
-    let step = work_made (Prove c.args.id.now c.args.seed.now) _ c.in_ok-proving.proving _ _ _
-    c.in_ok-get.ensures.answer c.in_ok-get.ensures.kept decided c.in_ok-get.ensures.id
-    c.in_ok-proving.ensures.on c.in_ok-keep.ensures.put in
+    let put = c.in_ok-keep.ensures.put c.args.id.now
+    (own_kept _ c.in_ok-proving.proving c.args.id.now c.in_ok-proving.ensures.on
+    c.in_ok-get.ensures.id) in
     search rules
 
 pub returns-in_err-proving-clause-call : goal.returns-in_err-proving-clause-call
@@ -24,10 +23,8 @@ returns-in_err-proving-clause-call g c =
 
 pub returns-in_err-keep-clause-call : goal.returns-in_err-keep-clause-call
 returns-in_err-keep-clause-call g c =
-    let decided = c.in_ok-proving.ensures.decided c.args.id.now in
     let step = keep_failed (Prove c.args.id.now c.args.seed.now) work_of
-    c.from_residual-in_err-keep.result _ c.in_err-keep.field-0.0 _ _ _ (search rules)
-    c.in_ok-get.ensures.kept c.in_err-keep.ensures.put in
-    let wants = unrefused (Prove c.args.id.now c.args.seed.now) _ _
-    (work_of c.in_ok-proving.proving.job) decided (λ given same. cc same) in
+    c.from_residual-in_err-keep.result c.in_err-keep.field-0.0 _ _ _ (search rules)
+    c.in_ok-get.ensures.kept c.in_err-keep.ensures.refused in
+    let wants = c.in_ok-proving.ensures.memory c.args.id.now (inl refl) in
     search rules

@@ -1,7 +1,4 @@
-use Rattle.std.proofs.Common.{rules}
-use Rattle.vk_house.specs.Commands.{Submit}
-use Rattle.vk_house.specs.Replies.{Position}
-use Rattle.vk_house.proofs.Wanting.{unrefused}
+use Rattle.std.proofs.Common.{rules, refl, inl}
 use Rattle.vk_house.proofs.house.House.submit.Goals as goal
 
 pub returns-clause-call : goal.returns-clause-call
@@ -18,7 +15,5 @@ returns-in_err-joined-clause-call g c =
 
 pub returns-in_err-put-clause-call : goal.returns-in_err-put-clause-call
 returns-in_err-put-clause-call g c =
-    let wants = unrefused (Submit c.args.id.now c.args.seal c.args.secret) _ _
-    (Position c.in_ok-joined.joined.position) (c.in_ok-joined.ensures.decided c.args.id.now)
-    (λ given same. cc same) in
+    let wants = c.in_ok-joined.ensures.memory c.args.id.now (inl refl) in
     search rules
