@@ -18,15 +18,15 @@ use vk_wire::WireFault;
 
 /// The names of an order's files, each by the part that it stands for.
 pub trait NamedParts {
-    ghost part_name: { Self → PartNames };
+    ghost name_of: { Self → PartNames };
 
     /// The name of the file as it was given.
     fn name_of(&self, part: Part) -> &str
-        ensures { result.now ≡ part_name self.now part };
+        ensures { result.now ≡ name_of self.now part };
 }
 
 impl NamedParts for OneReply<'_> {
-    ghost part_name = { λ names. name_in (verify_seen names) };
+    ghost name_of = { λ names. name_in (verify_seen names) };
 
     fn name_of(&self, part: Part) -> &str {
         match part {
@@ -38,7 +38,7 @@ impl NamedParts for OneReply<'_> {
 }
 
 impl NamedParts for TwoReplies<'_> {
-    ghost part_name = { λ names. name_of (extract_seen names) };
+    ghost name_of = { λ names. name_of (extract_seen names) };
 
     fn name_of(&self, part: Part) -> &str {
         match part {
@@ -108,7 +108,7 @@ pub fn say_verdict<N: NamedParts>(
     verdict: BoardVerdict,
 ) -> Result<Said, NoMemory>
     ensures said { IfOk result
-        (λ said. said ≡ judged_said (N.part_name names.now) second verdict) }
+        (λ said. said ≡ judged_said (N.name_of names.now) second verdict) }
     ensures accepted { verdict ≡ BoardVerdict.Accepted → IsOk result }
 {
     let board = names.name_of(Part::Board);
@@ -136,7 +136,7 @@ pub fn same_challenge() -> Said
 /// failure is handed on.
 #[tactic(auto, using(vk_judge::specs::Wanting::memory_was_wanting))]
 pub fn unread<N: NamedParts>(alloc: Global, names: &N, fault: VErr) -> Result<Said, OutsideErr>
-    ensures said { IfOk result (λ said. said ≡ unread_said (N.part_name names.now) fault) }
+    ensures said { IfOk result (λ said. said ≡ unread_said (N.name_of names.now) fault) }
     ensures file { OnOk result (IsOfFile fault) }
     ensures wanting { IsErrOf result OutsideErr.NoMemory → MemoryWasWanting }
     ensures causes { (before after : ℕ) → Causes {T = Unit {0}} VErr.Failed (Err fault) before after

@@ -5,12 +5,11 @@ ghost use Rattle.vk_claims.specs.Circuits.{admitted_plan, claimed, claims_are_so
 ghost use Rattle.vk_words.specs.declared.claim.Kind.TheVariants.{Uniform, Matching};
 
 use std::alloc::Global;
-use vk_claim::{Circuits, ClaimHead};
+use vk_claim::{Circuits, ClaimHead, Kind};
 use vk_matching::MatchingPlan;
 use vk_plan::{Circuit, Plan};
 use vk_residue::NoMemory;
 use vk_uniform::UniformPlan;
-use vk_words::Kind;
 
 /// The circuits that claims may be of: by the kind of the public part.
 #[derive(Clone, Copy, Debug)]

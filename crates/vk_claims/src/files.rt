@@ -12,14 +12,13 @@ ghost use Rattle.vk_claims.specs.Texts.{files_of};
 use crate::making::Made;
 use crate::names::claim_names;
 use std::alloc::Global;
-use vk_claim::{ClaimHead, claim_head_text};
+use vk_claim::{ClaimHead, Kind, claim_head_text};
 use vk_io::{OutsideErr, Shelf, write_files};
 use vk_job::HonestProof;
 use vk_report::SampleCase;
 use vk_residue::NoMemory;
 use vk_sample_parts::ProofFiles;
 use vk_seq::Seq;
-use vk_words::Kind;
 
 /// The text of the head of the claim file.
 fn head_of(

@@ -19,7 +19,7 @@ pub fn claim_refused<N: NamedParts>(
     refusal: Refusal<ClaimRefusal>,
 ) -> Result<Said, NoMemory>
     ensures { IfOk result
-        (λ said. said ≡ claim_refused_said (N.part_name names.now) second refusal) }
+        (λ said. said ≡ claim_refused_said (N.name_of names.now) second refusal) }
 {
     let said = match refusal {
         Refusal::Front(ClaimRefusal::Public) => {
@@ -36,7 +36,7 @@ pub fn claim_judged<N: NamedParts>(
     names: &N,
     answer: Result<(), Refusal<ClaimRefusal>>,
 ) -> Result<Said, NoMemory>
-    ensures said { IfOk result (λ said. said ≡ claim_judged_said (N.part_name names.now) answer) }
+    ensures said { IfOk result (λ said. said ≡ claim_judged_said (N.name_of names.now) answer) }
     ensures accepted { answer ≡ Ok tt → IsOk result }
 {
     let said = match answer {
