@@ -175,11 +175,7 @@ fn push_shape(text: &mut Text, checker: &ClaimChecker)
 }
 
 /// What is said of the finding, as of one reply that is accepted where both are.
-fn said_of(
-    alloc: Global,
-    names: &TwoReplies<'_>,
-    finding: ClaimFinding,
-) -> Result<Said, NoMemory> {
+fn said_of(alloc: Global, names: &TwoReplies<'_>, finding: ClaimFinding) -> Result<Said, NoMemory> {
     let (second, verdict) = match finding {
         ClaimFinding::Same => return Ok(same_challenge()),
         ClaimFinding::Ready => (false, ClaimVerdict::Accepted),

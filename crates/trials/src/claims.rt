@@ -11,6 +11,7 @@ use std::alloc::Global;
 use vk_cases::{Text, Tried, Unreplayed, number_at, numbers_in, word_at};
 use vk_claim::{ClaimHead, Kind, claim_head_text};
 use vk_io::PieceShelf;
+use vk_judge::TwoReplies;
 use vk_matching::{MatchingPlan, propose};
 use vk_plan::Plan;
 use vk_residue::{NoMemory, Residue};

@@ -103,7 +103,7 @@ extracts_claims_exactly files names taken = (
       only_found files (name_of names) (extract_inputs names) (HasClaimExtraction files names)
       (claim_extraction_said names) refl (λ _. refl) (λ _. refl) (status_within (name_of names))
       (AcceptsTwoClaims files names)
-      (λ of_second refused holds. status_refused names of_second refused)
+      (λ of_second refused holds. status_refused (name_of names) of_second refused)
       (λ clash holds. record { held = holds.held; two = holds.holds.holds.0 })
       (λ values holds. record { held = holds.held; two = holds.holds.holds.0 })
       (answer files names) (answer_holds files names) apart.0 apart.1,
