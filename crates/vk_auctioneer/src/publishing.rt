@@ -71,14 +71,8 @@ fn say_proved<S: Shelf>(
         before after }
 {
     match answer {
-        Ok(job) => {
-            let said = publish(alloc, shelf, name, &job);
-            said
-        }
-        Err(refusal) => {
-            let said = say_refusal(alloc, 0, refusal);
-            said
-        }
+        Ok(job) => publish(alloc, shelf, name, &job),
+        Err(refusal) => say_refusal(alloc, 0, refusal),
     }
 }
 
@@ -245,14 +239,8 @@ fn say_answered<S: Shelf>(
         before after }
 {
     match answer {
-        Err(refusal) => {
-            let said = say_refusal(alloc, 0, refusal);
-            said
-        }
-        Ok(job) => {
-            let said = show_halves(alloc, shelf, name, challenge, &job);
-            said
-        }
+        Ok(job) => show_halves(alloc, shelf, name, challenge, &job),
+        Err(refusal) => say_refusal(alloc, 0, refusal),
     }
 }
 
