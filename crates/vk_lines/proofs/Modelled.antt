@@ -35,5 +35,5 @@ reads_whole {table = table} {held = held} {old = old} {new = new} {before = befo
       shelf = part.shelf;
       right = part.right;
       answers = told_answers table form ends (held before) result (λ files. rest_of old files)
-      (λ files. rest_of new files) part.modelled;
+          (λ files. rest_of new files) part.modelled;
     }
