@@ -1,5 +1,5 @@
 // What stands in a claim file before its first lane.
-ghost use Rattle.std.specs.Prelude.{◌≡◌, IfOk};
+ghost use Rattle.std.specs.Prelude.{◌≡◌};
 ghost use Rattle.vk_lines.specs.Lines.{ReadsRight};
 ghost use Rattle.vk_claim.specs.Values.{IsClaimFront};
 ghost use Rattle.vk_claim.specs.Reading.{claim_front_at};
