@@ -1,11 +1,11 @@
 // Commands of a house over a keeper of one auction.
-ghost use Rattle.std.specs.Prelude.{IfOk};
+ghost use Rattle.std.specs.Prelude.{IfOk, IfSome};
 ghost use Rattle.vk_residue.specs.Limits.{IsSize};
 ghost use Rattle.vk_reply.specs.Values.{IsChallenge};
 ghost use Rattle.vk_seal.specs.Values.{IsSeal, IsSecret};
 ghost use Rattle.vk_keeper.specs.Auctions.{IsAuction};
 
-use crate::texts::{put_answered, put_found, put_proved, put_refused};
+use crate::texts::{put_found, put_job, put_refused};
 use std::alloc::Global;
 use vk_cases::{Text, Tried, Unreplayed, number_at, text_in, word_at};
 use vk_dice::ChaChaWords;
@@ -176,24 +176,36 @@ fn put_housed<K: Keeper + Drop>(keeper: &mut K, text: &mut Text, order: &Order) 
     match text_in(word_at(order.command, 0)?)? {
         "announce" => put_announced(keeper, text, order),
         "submit" => put_submitted(keeper, text, order),
-        "prove" => prove(keeper, text, order),
+        "prove" => put_worked(keeper, text, order, None),
         "answer" => answer(keeper, text, order),
         "find" => put_kept(keeper, text, &order.id),
         _ => Err(Unreplayed::NoCase),
     }
 }
 
-fn prove<K: Keeper + Drop>(keeper: &mut K, text: &mut Text, order: &Order) -> Tried<()> {
-    let proved = House::over(keeper).prove(order.alloc, &order.id, &SEED);
-    let put = put_proved(text, &proved);
-    put
-}
-
 /// What is answered to the challenge of the bits.
 fn answer<K: Keeper + Drop>(keeper: &mut K, text: &mut Text, order: &Order) -> Tried<()> {
     let challenge = challenge_of(order.alloc, word_at(order.command, 1)?)?;
-    let answered = House::over(keeper).answer(order.alloc, &order.id, &challenge);
-    let put = put_answered(text, &answered);
+    let put = put_worked(keeper, text, order, Some(&challenge));
+    put
+}
+
+/// The sale that a house proves; or, where there is a challenge, what it answers to that. A job is
+/// dropped here alone, which is dear to prove.
+fn put_worked<K: Keeper + Drop>(
+    keeper: &mut K,
+    text: &mut Text,
+    order: &Order,
+    challenge: Option<&Challenge>,
+) -> Tried<()>
+    requires { IfSome challenge (λ asked. IsChallenge asked.now) }
+{
+    let mut house = House::over(keeper);
+    let worked = match challenge {
+        None => house.prove(order.alloc, &order.id, &SEED),
+        Some(challenge) => house.answer(order.alloc, &order.id, challenge),
+    };
+    let put = put_job(text, &worked, challenge.is_some());
     put
 }
 

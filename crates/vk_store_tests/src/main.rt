@@ -4,6 +4,7 @@
 #![tactic(auto)]
 
 mod commands;
+mod lent;
 mod sessions;
 mod stopping;
 mod stores;

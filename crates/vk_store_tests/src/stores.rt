@@ -1,6 +1,7 @@
 // Stores in memory: what their files hold, how they are opened and closed, and what is done to them
 // between.
 use crate::commands::Task;
+use crate::lent::Lent;
 use crate::texts::put_unopened;
 use sqlite::{Alter, Connection, FileStore, Files, Options};
 use sqlite_disk::{Crash, Disk, Fuse, Memory};
@@ -150,7 +151,7 @@ fn closed<D: Disk + Drop>(connection: Connection<FileStore<D>>) -> (Files<D>, bo
 }
 
 /// Does the task over a keeper of this store, or runs its statements without one.
-fn done_over<S: Alter + Drop>(
+fn done_over<S: Alter>(
     alloc: Global,
     mut connection: Connection<S>,
     task: &Task,
@@ -163,7 +164,7 @@ fn done_over<S: Alter + Drop>(
     }
     match SqlKeeper::over(alloc, connection) {
         Ok(mut keeper) => {
-            let done = task.put_done(alloc, &mut keeper, text);
+            let done = task.put_done(alloc, &mut Lent::of(&mut keeper), text);
             (done, keeper.close())
         }
         Err((refusal, connection)) => (put_unopened(text, refusal), connection),

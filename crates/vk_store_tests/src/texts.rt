@@ -41,15 +41,14 @@ pub fn put_refused(text: &mut Text, refusal: &HouseErr) -> Tried<()> {
     Ok(())
 }
 
-/// What a house proved.
-pub fn put_proved(text: &mut Text, proved: &Result<Job, HouseErr>) -> Tried<()> {
-    match proved {
-        Ok(job) => {
-            put_sale(text, job.sale());
-            Ok(())
-        }
-        Err(refusal) => put_refused(text, refusal),
+/// The sale that a house proved; or the challenge, where it answered one.
+pub fn put_job(text: &mut Text, worked: &Result<Job, HouseErr>, is_answer: bool) -> Tried<()> {
+    match worked {
+        Ok(job) if is_answer => put_phase(text, &job.auction().phase),
+        Ok(job) => put_sale(text, job.sale()),
+        Err(refusal) => return put_refused(text, refusal),
     }
+    Ok(())
 }
 
 fn put_sale(text: &mut Text, sale: Sale) {
@@ -59,17 +58,6 @@ fn put_sale(text: &mut Text, sale: Sale) {
             text.put_number(b" ", price);
         }
         Sale::Unsold => text.put(b"unsold"),
-    }
-}
-
-/// The challenge that a house answered.
-pub fn put_answered(text: &mut Text, answered: &Result<Job, HouseErr>) -> Tried<()> {
-    match answered {
-        Ok(job) => {
-            put_phase(text, &job.auction().phase);
-            Ok(())
-        }
-        Err(refusal) => put_refused(text, refusal),
     }
 }
 
