@@ -1,7 +1,7 @@
 // Steps that make files, folders and links, beside the shelf.
 use crate::edge::Edge;
 use crate::room::{Room, done};
-use crate::steps::push;
+use crate::steps::{Step, push};
 use std::fs::{OpenFile, OpenOptions, Permissions};
 use std::io::{Seek, SeekFrom, Write};
 use std::os::fd::AsRawFd;
@@ -10,14 +10,15 @@ use std::rt::Files;
 use std::{fs, io};
 use vk_cases::{Tried, Unreplayed, number_at, word_at};
 
-/// Makes what a step says at that path, or takes it away, and tells so.
-pub fn make(room: &Room<'_>, word: &str, path: &str, step: &[u8], told: &mut Vec<u8>) -> Tried<()> {
-    match word {
+/// Makes what a step says at its path, or takes it away, and tells so.
+pub fn make(room: &Room<'_>, step: &Step<'_>, told: &mut Vec<u8>) -> Tried<()> {
+    let path = step.path;
+    match step.word {
         "folder" => done(fs::create_dir(room.rt, path))?,
-        "file" => done(put(room.rt, path, word_at(step, 2)?))?,
-        "link" => name(room, step, path, false)?,
-        "hard" => name(room, step, path, true)?,
-        "large" => large(room, step, path)?,
+        "file" => done(put(room.rt, path, word_at(step.text, 2)?))?,
+        "link" => name(room, step.text, path, false)?,
+        "hard" => name(room, step.text, path, true)?,
+        "large" => large(room, step.text, path)?,
         "remove" => done(fs::remove_file(room.rt, path))?,
         _ => return Err(Unreplayed::NoCase),
     }

@@ -3,6 +3,7 @@ ghost use Rattle.std.specs.Prelude.{◌≤◌, IfOk};
 
 use std::cell::Cell;
 use std::io::{self, ErrorKind};
+use vk_cases::{Tried, Unreplayed};
 
 /// A kind of calls to the system.
 #[derive(Clone, Copy, PartialEq, Eq)]
@@ -19,17 +20,17 @@ pub enum Call {
 
 impl Call {
     /// The kind of that name.
-    pub fn of(word: &str) -> Option<Call> {
+    pub fn of(word: &str) -> Tried<Call> {
         match word {
-            "open" => Some(Call::Open),
-            "look" => Some(Call::Look),
-            "cut" => Some(Call::Cut),
-            "sync" => Some(Call::Sync),
-            "seek" => Some(Call::Seek),
-            "read" => Some(Call::Read),
-            "write" => Some(Call::Write),
-            "print" => Some(Call::Print),
-            _ => None,
+            "open" => Ok(Call::Open),
+            "look" => Ok(Call::Look),
+            "cut" => Ok(Call::Cut),
+            "sync" => Ok(Call::Sync),
+            "seek" => Ok(Call::Seek),
+            "read" => Ok(Call::Read),
+            "write" => Ok(Call::Write),
+            "print" => Ok(Call::Print),
+            _ => Err(Unreplayed::NoCase),
         }
     }
 }
@@ -44,21 +45,21 @@ pub enum Wrong {
 
 impl Wrong {
     /// What has that name.
-    pub fn of(word: &str) -> Option<Wrong> {
+    pub fn of(word: &str) -> Tried<Wrong> {
         match word {
-            "one" => Some(Wrong::MovesOne),
-            "none" => Some(Wrong::MovesNone),
-            "fails" => Some(Wrong::Fails(ErrorKind::Other)),
-            "interrupted" => Some(Wrong::Fails(ErrorKind::Interrupted)),
-            "full" => Some(Wrong::Fails(ErrorKind::StorageFull)),
-            "quota" => Some(Wrong::Fails(ErrorKind::QuotaExceeded)),
-            "pipe" => Some(Wrong::Fails(ErrorKind::BrokenPipe)),
-            "large" => Some(Wrong::Fails(ErrorKind::FileTooLarge)),
-            "denied" => Some(Wrong::Fails(ErrorKind::PermissionDenied)),
-            "read-only" => Some(Wrong::Fails(ErrorKind::ReadOnlyFilesystem)),
-            "gone" => Some(Wrong::Fails(ErrorKind::NotFound)),
-            "invalid" => Some(Wrong::Fails(ErrorKind::InvalidInput)),
-            _ => None,
+            "one" => Ok(Wrong::MovesOne),
+            "none" => Ok(Wrong::MovesNone),
+            "fails" => Ok(Wrong::Fails(ErrorKind::Other)),
+            "interrupted" => Ok(Wrong::Fails(ErrorKind::Interrupted)),
+            "full" => Ok(Wrong::Fails(ErrorKind::StorageFull)),
+            "quota" => Ok(Wrong::Fails(ErrorKind::QuotaExceeded)),
+            "pipe" => Ok(Wrong::Fails(ErrorKind::BrokenPipe)),
+            "large" => Ok(Wrong::Fails(ErrorKind::FileTooLarge)),
+            "denied" => Ok(Wrong::Fails(ErrorKind::PermissionDenied)),
+            "read-only" => Ok(Wrong::Fails(ErrorKind::ReadOnlyFilesystem)),
+            "gone" => Ok(Wrong::Fails(ErrorKind::NotFound)),
+            "invalid" => Ok(Wrong::Fails(ErrorKind::InvalidInput)),
+            _ => Err(Unreplayed::NoCase),
         }
     }
 }

@@ -1,14 +1,15 @@
 // Steps that look at files, beside the shelf.
 use crate::edge::Edge;
 use crate::room::done;
-use crate::steps::{push, push_bytes};
+use crate::steps::{Step, push, push_bytes};
 use std::fs;
 use std::os::unix::fs::{MetadataExt, PermissionsExt};
 use vk_cases::{Tried, Unreplayed};
 
-/// Tells of the file at that path.
-pub fn see(edge: &mut Edge<'_>, word: &str, path: &str, told: &mut Vec<u8>) -> Tried<()> {
-    match word {
+/// Tells of the file at the step's path.
+pub fn see(edge: &mut Edge<'_>, step: &Step<'_>, told: &mut Vec<u8>) -> Tried<()> {
+    let path = step.path;
+    match step.word {
         "see" => see_bytes(edge, path, told),
         "mode" => see_mode(edge, path, told),
         "note" => note_time(edge, path, told),

@@ -1,6 +1,6 @@
 // Steps on the shelf.
 use crate::edge::Edge;
-use crate::steps::{push, push_answer, push_bytes};
+use crate::steps::{Step, push, push_answer, push_bytes};
 use std::alloc::Global;
 use vk_cases::{Tried, Unreplayed, number_at, word_at};
 use vk_io::{Content, Shelf, read_whole};
@@ -12,44 +12,41 @@ const TURN: u64 = 251;
 /// The most bytes of which each is told.
 const MOST_TOLD: u64 = 16;
 
-/// Has the shelf do what a step says of the file at that path.
+/// Has the shelf do what a step says of the file at its path.
 pub fn ask<S: Shelf>(
     alloc: Global,
     shelf: &mut S,
-    word: &str,
-    path: &str,
-    step: &[u8],
+    step: &Step<'_>,
     told: &mut Vec<u8>,
 ) -> Tried<()> {
-    match word {
-        "create" => push_answer(told, shelf.create(path)),
-        "append" => append(shelf, path, step, told),
-        "run" => append_run(alloc, shelf, path, step, told),
-        "length" => tell_length(shelf, path, told),
-        "read" => tell_part(alloc, shelf, path, step, told),
-        "whole" => tell_whole(alloc, shelf, path, step, told),
+    match step.word {
+        "create" => push_answer(told, shelf.create(step.path)),
+        "append" => append(shelf, step, told),
+        "run" => append_run(alloc, shelf, step, told),
+        "length" => tell_length(shelf, step.path, told),
+        "read" => tell_part(alloc, shelf, step, told),
+        "whole" => tell_whole(alloc, shelf, step, told),
         _ => Err(Unreplayed::NoCase),
     }
 }
 
 /// Appends the text of a step.
-fn append<S: Shelf>(shelf: &mut S, path: &str, step: &[u8], told: &mut Vec<u8>) -> Tried<()> {
-    push_answer(told, shelf.append(path, word_at(step, 2)?))
+fn append<S: Shelf>(shelf: &mut S, step: &Step<'_>, told: &mut Vec<u8>) -> Tried<()> {
+    push_answer(told, shelf.append(step.path, word_at(step.text, 2)?))
 }
 
 /// Appends so many bytes as one piece, of which that of each place is the place modulo 251.
 fn append_run<S: Shelf>(
     alloc: Global,
     shelf: &mut S,
-    path: &str,
-    step: &[u8],
+    step: &Step<'_>,
     told: &mut Vec<u8>,
 ) -> Tried<()> {
     let mut piece = Vec::new(alloc);
-    for place in 0..number_at(step, 2, u64::MAX)? {
+    for place in 0..number_at(step.text, 2, u64::MAX)? {
         piece.push((place % TURN) as u8)?;
     }
-    push_answer(told, shelf.append(path, piece.as_slice()))
+    push_answer(told, shelf.append(step.path, piece.as_slice()))
 }
 
 /// The length that the shelf tells.
@@ -66,14 +63,13 @@ fn tell_length<S: Shelf>(shelf: &mut S, path: &str, told: &mut Vec<u8>) -> Tried
 fn tell_part<S: Shelf>(
     alloc: Global,
     shelf: &mut S,
-    path: &str,
-    step: &[u8],
+    step: &Step<'_>,
     told: &mut Vec<u8>,
 ) -> Tried<()> {
-    let at = number_at(step, 2, u64::MAX)?;
-    let room = number_at(step, 3, 1 << 20)?;
+    let at = number_at(step.text, 2, u64::MAX)?;
+    let room = number_at(step.text, 3, 1 << 20)?;
     let mut into = vec![in alloc; b'.'; room as usize]?;
-    match shelf.read_at(path, at, &mut into) {
+    match shelf.read_at(step.path, at, &mut into) {
         Ok(count) => tell_bytes(told, count, into.as_slice()),
         Err(refusal) => push_answer(told, Err(refusal)),
     }
@@ -109,11 +105,10 @@ fn tell_run(told: &mut Vec<u8>, bytes: &[u8]) -> Tried<()> {
 fn tell_whole<S: Shelf>(
     alloc: Global,
     shelf: &mut S,
-    path: &str,
-    step: &[u8],
+    step: &Step<'_>,
     told: &mut Vec<u8>,
 ) -> Tried<()> {
-    match read_whole(alloc, shelf, path, number_at(step, 2, u64::MAX)?) {
+    match read_whole(alloc, shelf, step.path, number_at(step.text, 2, u64::MAX)?) {
         Ok(Content::Held(bytes)) => push_bytes(told, bytes.as_slice()),
         Ok(Content::Missing) => push(told, "missing"),
         Ok(Content::TooLong) => push(told, "too long"),

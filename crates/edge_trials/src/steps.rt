@@ -5,9 +5,16 @@ use crate::plan::{Call, Fault, Wrong};
 use crate::room::done;
 use crate::seeing::see;
 use crate::shelf_steps::{ask, tell_fault};
-use std::str::from_utf8;
-use vk_cases::{Tried, Unreplayed, number_at, word_at};
+use vk_cases::{Tried, Unreplayed, number_at, text_in, word_at};
 use vk_io::{OutsideErr, Sink};
+
+/// A step, its word, and its path, where it has one.
+#[derive(Clone, Copy)]
+pub struct Step<'a> {
+    pub word: &'a str,
+    pub path: &'a str,
+    pub text: &'a [u8],
+}
 
 /// Takes a step, and tells what came of it. A PATH is from the root to the trial's folder and on
 /// where `@` stands before it, and else from the folder that the program runs in.
@@ -30,44 +37,31 @@ use vk_io::{OutsideErr, Sink};
 /// Of the calls to the system:
 /// - `wrong CALL FIRST LAST HOW`: from now on those calls of the kind go wrong, and no others.
 /// - `met`: whether all of them were made.
-pub fn take_step(edge: &mut Edge<'_>, step: &[u8], told: &mut Vec<u8>) -> Tried<()> {
-    let word = text_in(word_at(step, 0)?)?;
-    let path = edge.room.path(word_at(step, 1).unwrap_or(&[]))?;
-    let taken = take_at(edge, word, path.as_str(), step, told);
+pub fn take_step(edge: &mut Edge<'_>, text: &[u8], told: &mut Vec<u8>) -> Tried<()> {
+    let word = text_in(word_at(text, 0)?)?;
+    let path = edge.room.path(word_at(text, 1).unwrap_or(&[]))?;
+    let path = path.as_str();
+    let taken = take_at(edge, &Step { word, path, text }, told);
     taken
 }
 
-/// The word as text, which is compared at less cost to the prover than bytes are.
-pub fn text_in(word: &[u8]) -> Tried<&str> {
-    match from_utf8(word) {
-        Ok(text) => Ok(text),
-        Err(_) => Err(Unreplayed::NoCase),
-    }
-}
-
-/// Takes a step of that word, of which that is the path, where it has one.
-fn take_at(
-    edge: &mut Edge<'_>,
-    word: &str,
-    path: &str,
-    step: &[u8],
-    told: &mut Vec<u8>,
-) -> Tried<()> {
-    match word {
-        "pipe" => make_pipe(edge, path, told),
-        "see" | "mode" | "note" | "since" => see(edge, word, path, told),
+/// Takes the step, and tells what came of it.
+fn take_at(edge: &mut Edge<'_>, step: &Step<'_>, told: &mut Vec<u8>) -> Tried<()> {
+    match step.word {
+        "pipe" => make_pipe(edge, step.path, told),
+        "see" | "mode" | "note" | "since" => see(edge, step, told),
         "settle" => push_answer(told, edge.shelf.settle()),
-        "why" => tell_fault(edge, path, told),
-        "put" => put(&mut edge.sink, step, told),
+        "why" => tell_fault(edge, step.path, told),
+        "put" => put(&mut edge.sink, step.text, told),
         "taken" => done(edge.output.push_taken(told)),
         "why-not" => push(told, edge.sink.reason()),
-        "wrong" => plan(edge, step, told),
+        "wrong" => plan(edge, step.text, told),
         "met" => push(told, if edge.plan.is_met() { "yes" } else { "no" }),
         "create" | "append" | "run" | "length" | "read" | "whole" => {
             let alloc = edge.room.alloc;
-            ask(alloc, &mut edge.shelf, word, path, step, told)
+            ask(alloc, &mut edge.shelf, step, told)
         }
-        _ => make(edge.room, word, path, step, told),
+        _ => make(edge.room, step, told),
     }
 }
 
@@ -78,11 +72,15 @@ fn put<W: Sink>(sink: &mut W, step: &[u8], told: &mut Vec<u8>) -> Tried<()> {
 
 /// Has the calls go wrong that a step names.
 fn plan(edge: &Edge<'_>, step: &[u8], told: &mut Vec<u8>) -> Tried<()> {
+    let call = Call::of(text_in(word_at(step, 1)?)?)?;
+    let first = number_at(step, 2, u64::MAX)?;
+    let last = number_at(step, 3, u64::MAX)?;
+    let wrong = Wrong::of(text_in(word_at(step, 4)?)?)?;
     edge.plan.set(Fault {
-        call: Call::of(text_in(word_at(step, 1)?)?).ok_or(Unreplayed::NoCase)?,
-        first: number_at(step, 2, u64::MAX)?,
-        last: number_at(step, 3, u64::MAX)?,
-        wrong: Wrong::of(text_in(word_at(step, 4)?)?).ok_or(Unreplayed::NoCase)?,
+        call,
+        first,
+        last,
+        wrong,
     });
     push(told, "planned")
 }

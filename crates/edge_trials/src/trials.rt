@@ -4,27 +4,14 @@ use crate::faulty::Faulty;
 use crate::output::Output;
 use crate::plan::{Call, Fault, Plan, Wrong};
 use crate::room::Room;
-use crate::steps::{push, take_step, text_in};
-use memchr::memchr;
+use crate::steps::{push, take_step};
 use std::io::ErrorKind;
-use vk_cases::{Tried, Unreplayed, behind, word_at};
+use vk_cases::{Tried, Unreplayed, cut, text_in, word_at};
 use vk_io::Sink;
 use vk_lines::{end_line, push_decimal};
 
 /// How many calls of a kind fail in turn, at most.
 const MOST_CALLS: u64 = 100;
-
-/// What stands before the first of these bytes, and what stands behind it: nothing where there is
-/// none.
-fn cut(text: &[u8], mark: u8) -> (&[u8], &[u8]) {
-    match memchr(mark, text) {
-        Some(at) => (
-            text.get(..at).unwrap_or(text),
-            behind(text, at.saturating_add(1)),
-        ),
-        None => (text, &[]),
-    }
-}
 
 /// Tries all, and tells what came of each step. A trial begins with a line `# STORE`, and its store
 /// is at that path. Where the line is `# STORE CALL`, its steps are taken again and again: each
@@ -75,7 +62,7 @@ fn try_each(
     steps: &[u8],
     told: &mut Vec<u8>,
 ) -> Tried<()> {
-    let call = Call::of(text_in(word)?).ok_or(Unreplayed::NoCase)?;
+    let call = Call::of(text_in(word)?)?;
     for at in 1..=MOST_CALLS {
         plan.set(Fault {
             call,

@@ -2,10 +2,10 @@
 use crate::making::make;
 use crate::running::{ended, status_of};
 use crate::seeing::see;
-use crate::steps::{Stage, behind_word, push, text_at, text_in};
+use crate::steps::{Stage, behind_word, push, text_at};
 use std::fs;
 use std::rt::Files;
-use vk_cases::{Tried, Unreplayed, behind, words_of};
+use vk_cases::{Tried, Unreplayed, behind, text_in, words_of};
 use vk_files::{FileShelf, OutSink};
 use vk_lines::push_decimal;
 use vk_program::{HousePlace, STORE, StoreHouse};
@@ -38,7 +38,7 @@ pub struct Folder<'a> {
 /// reaches. It is generic since a shelf over those of the system is dearer to drop.
 fn status_over<R: Eprint + Print + AllocGlobal + Files, H: HousePlace>(
     rt: &R,
-    words: &[String],
+    words: Vec<String>,
     house: H,
 ) -> u64 {
     let mut shelf = FileShelf::new(rt, rt.alloc(), STORE);
@@ -57,9 +57,9 @@ impl Folder<'_> {
     }
 
     /// Runs the program of a step's words, and tells with which status it ends.
-    fn run(&self, words: &[u8], told: &mut Vec<u8>) -> Tried<()> {
-        let words = words_of(self.rt.alloc(), words)?;
-        let status = status_over(self.rt, words.as_slice(), StoreHouse::of(self.rt));
+    fn run(&self, step: &[u8], told: &mut Vec<u8>) -> Tried<()> {
+        let words = words_of(self.rt.alloc(), step)?;
+        let status = status_over(self.rt, words, StoreHouse::of(self.rt));
         Ok(push_decimal(told, status)?)
     }
 
@@ -67,13 +67,13 @@ impl Folder<'_> {
     fn run_beside<H: HousePlace>(
         &self,
         house: &mut H,
-        words: &[u8],
+        step: &[u8],
         told: &mut Vec<u8>,
     ) -> Tried<()> {
         let Ok(keeper) = house.open() else {
             return Err(Unreplayed::Outside);
         };
-        let run = self.run(words, told);
+        let run = self.run(step, told);
         if house.close(keeper).is_err() {
             return Err(Unreplayed::Outside);
         }
@@ -92,10 +92,10 @@ impl Stage for Folder<'_> {
     /// - What is made or taken away: see [`make`].
     fn take(&mut self, word: &str, step: &[u8], told: &mut Vec<u8>) -> Tried<()> {
         match word {
-            "run" => self.run(behind_word(step, word), told),
+            "run" => self.run(step, told),
             "beside" => {
                 let mut house = StoreHouse::of(self.rt);
-                let run = self.run_beside(&mut house, behind_word(step, word), told);
+                let run = self.run_beside(&mut house, step, told);
                 run
             }
             "see" => see(self.rt, text_at(step, 1)?, told),

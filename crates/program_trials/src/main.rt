@@ -13,10 +13,10 @@ mod steps;
 
 use crate::folder::Folder;
 use crate::memory::Memory;
-use crate::steps::take_steps;
+use crate::steps::{Stage, take_steps};
 use std::alloc::Global;
 use std::process::ExitCode;
-use vk_cases::{Replay, Replayed, read_cases, replay_here};
+use vk_cases::{Replay, Replayed, Tried, read_cases, replay_here};
 use vk_io::{Shelf, Sink};
 
 /// The steps of the files `memory` and `folder`.
@@ -27,14 +27,35 @@ struct ProgramTrials<'a> {
 
 impl Replay for ProgramTrials<'_> {
     fn replay<S: Shelf, W: Sink>(&self, alloc: Global, folder: &mut S, out: &mut W) -> Replayed {
-        let steps = read_cases(alloc, folder, "memory")?;
-        take_steps(alloc, &mut Memory::new(alloc), steps.as_slice(), out)?;
-        let steps = read_cases(alloc, folder, "folder")?;
+        try_memory(alloc, folder, out)?;
         let mut real = Folder { rt: self.rt };
-        take_steps(alloc, &mut real, steps.as_slice(), out)?;
+        try_file(alloc, &mut real, folder, "folder", out)?;
         real.clear();
         Ok(())
     }
+}
+
+// What stands in is made and dropped in one place, and lent to the steps: what an error drops takes
+// seconds to prove.
+
+/// Takes the steps of the file `memory` on what stands in.
+fn try_memory<S: Shelf, W: Sink>(alloc: Global, folder: &mut S, out: &mut W) -> Tried<()> {
+    let mut memory = Memory::new(alloc);
+    let tried = try_file(alloc, &mut memory, folder, "memory", out);
+    tried
+}
+
+/// Takes the steps of the file of that name.
+fn try_file<T: Stage, S: Shelf, W: Sink>(
+    alloc: Global,
+    stage: &mut T,
+    folder: &mut S,
+    name: &str,
+    out: &mut W,
+) -> Tried<()> {
+    let steps = read_cases(alloc, folder, name)?;
+    let taken = take_steps(alloc, stage, steps.as_slice(), out);
+    taken
 }
 
 fn main(rt: HostRuntime) -> ExitCode {

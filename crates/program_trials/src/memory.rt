@@ -3,9 +3,10 @@ ghost use Rattle.std.specs.Prelude.{◌≤◌};
 
 use crate::running::{ended, status_of};
 use crate::standing_in::{Errors, MemFiles, MemHouse};
-use crate::steps::{Stage, behind_word, push, text_at};
+use crate::steps::{Stage, push, text_at};
 use std::alloc::Global;
 use std::cell::{Cell, RefCell};
+use std::process::ExitCode;
 use vk_cases::{Tried, Unreplayed, number_at, words_of};
 use vk_io::MemSink;
 use vk_keeper::MemKeeper;
@@ -42,9 +43,15 @@ impl Memory {
         }
     }
 
-    /// Runs the program of these words, and tells with which status it ends. What is kept stays for
-    /// the next command.
-    fn run(&mut self, words: &[String], told: &mut Vec<u8>) -> Tried<()> {
+    /// Runs the program of a step's words, and tells with which status it ends.
+    fn run(&mut self, step: &[u8], told: &mut Vec<u8>) -> Tried<()> {
+        let words = words_of(self.alloc, step)?;
+        let code = self.code_of(words);
+        Ok(push_decimal(told, status_of(code))?)
+    }
+
+    /// With which code the program of these words ends. What is kept stays for the next command.
+    fn code_of(&mut self, words: Vec<String>) -> ExitCode {
         let house = MemHouse {
             alloc: self.alloc,
             kept: self.kept.take(),
@@ -58,7 +65,7 @@ impl Memory {
         let errors = (Errors { said: &self.said }, self.alloc);
         let (code, house) = ended(&errors, words, house, &mut self.files, &mut out);
         self.kept = house.kept;
-        Ok(push_decimal(told, status_of(code))?)
+        code
     }
 
     /// Tells all that was said on standard error since the trial began.
@@ -115,10 +122,7 @@ impl Stage for Memory {
     fn take(&mut self, word: &str, step: &[u8], told: &mut Vec<u8>) -> Tried<()> {
         let how = text_at(step, 1)?;
         match word {
-            "run" => {
-                let words = words_of(self.alloc, behind_word(step, word))?;
-                return self.run(words.as_slice(), told);
-            }
+            "run" => return self.run(step, told),
             "opened" => return Ok(push_decimal(told, self.opened.get())?),
             "said" => return self.tell_said(told),
             "end" => return self.end(number_at(step, 1, 9)?, told),

@@ -1,7 +1,6 @@
 // Steps, and what is told of each.
 use std::alloc::Global;
-use std::str::from_utf8;
-use vk_cases::{Tried, Unreplayed, behind, word_at};
+use vk_cases::{Tried, behind, text_in, word_at};
 use vk_io::Sink;
 use vk_lines::end_line;
 
@@ -66,14 +65,6 @@ pub fn push(told: &mut Vec<u8>, text: &str) -> Tried<()> {
 /// The word at that place of a step as text, empty where there is none.
 pub fn text_at(step: &[u8], place: usize) -> Tried<&str> {
     text_in(word_at(step, place).unwrap_or(&[]))
-}
-
-/// The bytes as text.
-pub fn text_in(bytes: &[u8]) -> Tried<&str> {
-    match from_utf8(bytes) {
-        Ok(text) => Ok(text),
-        Err(_) => Err(Unreplayed::NoCase),
-    }
 }
 
 /// What stands behind the first word of a step, and behind the space that ends it.

@@ -1,7 +1,6 @@
 // How many of each were tried.
-use crate::text::Text;
 use std::alloc::Global;
-use vk_cases::Tried;
+use vk_cases::{Text, Tried};
 
 /// How many of a name.
 #[derive(Drop)]
@@ -50,7 +49,8 @@ impl Counts {
     /// A line for each: the name, and how many there are.
     pub fn push(&self, text: &mut Text) {
         for count in &self.counts {
-            text.count(count.name.as_slice(), count.number);
+            text.put(count.name.as_slice());
+            text.put_count(b" ", count.number);
         }
     }
 }

@@ -1,10 +1,8 @@
 // Digests that the files of a trial need.
-use crate::parts::cut;
 use crate::stage::Stage;
-use crate::text::Text;
 use sha2::{Digest, Sha256};
 use std::alloc::Global;
-use vk_cases::{Tried, key_at, number_at, residue_at, word_at};
+use vk_cases::{Text, Tried, cut, key_at, number_at, residue_at, word_at};
 use vk_commit::{Opening, Place, commit};
 use vk_residue::{NoMemory, Residue};
 
@@ -18,8 +16,8 @@ const NO_KEY: [u8; 32] = [0; 32];
 pub fn push_commitment(text: &mut Text, words: &[u8]) -> Tried<()> {
     let slot = number_at(words, 2, 65535)? as u32;
     let digest = digest_of(words, slot, key_at(words, 3)?, residue_at(words, 4)?)?;
-    text.hex(&digest);
-    text.word(b"\n");
+    text.put_hex(b"", &digest);
+    text.put(b"\n");
     Ok(())
 }
 
@@ -30,12 +28,10 @@ pub fn push_digests(text: &mut Text, line: &[u8]) -> Tried<()> {
     let slot = number_at(words, 2, 65535)? as u32;
     let first = digest_of(words, slot, NO_KEY, residue_at(words, 3)?)?;
     let second = digest_of(words, slot.saturating_add(1), NO_KEY, residue_at(words, 4)?)?;
-    text.word(word);
-    text.word(b" ");
-    text.hex(&first);
-    text.word(b" ");
-    text.hex(&second);
-    text.word(b"\n");
+    text.put(word);
+    text.put_hex(b" ", &first);
+    text.put_hex(b" ", &second);
+    text.put(b"\n");
     Ok(())
 }
 
@@ -54,9 +50,9 @@ fn digest_of(words: &[u8], slot: u32, key: [u8; 32], value: Residue) -> Tried<[u
 pub fn push_derived(stage: &mut Stage, words: &[u8]) -> Tried<()> {
     let lanes = number_at(words, 1, 64)?;
     let digest = board_digest(stage.alloc, stage.files.file(word_at(words, 0)?)?)?;
-    stage.text.word(b"bits ");
+    stage.text.put(b"bits ");
     push_leading(&mut stage.text, &digest, lanes);
-    stage.text.word(b"\n");
+    stage.text.put(b"\n");
     Ok(())
 }
 
@@ -72,6 +68,6 @@ fn push_leading(text: &mut Text, digest: &[u8; 32], count: u64) {
     for place in 0..count.min(64) {
         let byte = digest[(place / 8) as usize];
         let bit = (byte >> (7 - place % 8)) % 2;
-        text.number(u64::from(bit));
+        text.put_number(b"", u64::from(bit));
     }
 }

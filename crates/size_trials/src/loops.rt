@@ -1,8 +1,7 @@
 // Steps that are taken again and again.
-use crate::parts::cut;
 use crate::stage::Stage;
 use crate::steps::take_step;
-use vk_cases::{Tried, Unreplayed, behind, word_at};
+use vk_cases::{Tried, Unreplayed, behind, cut, word_at};
 
 /// A letter, and the first and the last number that it has. Behind it a step begins.
 #[derive(Clone, Copy)]

@@ -10,7 +10,6 @@ mod numbers;
 mod parts;
 mod stage;
 mod steps;
-mod text;
 mod texts;
 mod watched;
 
@@ -37,7 +36,7 @@ impl Replay for SizeTrials {
 /// Takes all steps, and prints what is told of them.
 fn tell_all<W: Sink>(stage: &mut Stage, out: &mut W, steps: &[u8], parts: &[u8]) -> Tried<()> {
     let taken = take_all(stage, steps, parts);
-    stage.told.put(out)?;
+    stage.told.print(out)?;
     taken
 }
 

@@ -1,12 +1,11 @@
 // What the steps work on.
 use crate::counts::Counts;
 use crate::numbers::Numbers;
-use crate::parts::{cut, lines_between, push_with_line};
-use crate::text::Text;
+use crate::parts::{lines_between, push_with_line};
 use crate::watched::{WatchedFiles, WatchedSink};
 use std::alloc::Global;
 use vk_app::run;
-use vk_cases::{Tried, words_of};
+use vk_cases::{Text, Tried, cut, words_of};
 use vk_io::MemSink;
 use vk_keeper::MemKeeper;
 
@@ -74,7 +73,7 @@ impl Stage {
     /// Appends these lines of the named file to the text, counted from 1.
     pub fn copy(&mut self, name: &[u8], from: u64, to: u64) -> Tried<()> {
         let lines = lines_between(self.files.file(name)?, from, to);
-        self.text.word(lines);
+        self.text.put(lines);
         Ok(())
     }
 
@@ -124,10 +123,9 @@ impl Stage {
     fn count(&mut self, command: &[u8], status: u64) -> Tried<()> {
         let (word, _words) = cut(command, b' ');
         self.scratch.clear();
-        self.scratch.word(b"runs of ");
-        self.scratch.word(word);
-        self.scratch.word(b" to status ");
-        self.scratch.number(status);
+        self.scratch.put(b"runs of ");
+        self.scratch.put(word);
+        self.scratch.put_number(b" to status ", status);
         self.counts.add(self.scratch.bytes()?)
     }
 
@@ -135,9 +133,9 @@ impl Stage {
     /// and begins another text.
     pub fn judge(&mut self, step: &[u8], wanted: u64, status: u64) -> Tried<()> {
         if status != wanted {
-            self.told.number(status);
-            self.told.word(b" ");
-            self.told.line(step);
+            self.told.put_number(b"", status);
+            self.told.put(b" ");
+            self.told.put_line(step);
         }
         compare(
             &mut self.told,
@@ -160,10 +158,10 @@ impl Stage {
     /// Tells how many of each were tried.
     pub fn sum_up(&mut self) {
         self.counts.push(&mut self.told);
-        let strange = b"names looked at that the words don't have";
-        self.told.count(strange, self.files.strange);
-        let torn = b"pieces printed that aren't one line";
-        self.told.count(torn, self.torn);
+        let strange = b"names looked at that the words don't have ";
+        self.told.put_count(strange, self.files.strange);
+        let torn = b"pieces printed that aren't one line ";
+        self.told.put_count(torn, self.torn);
     }
 }
 
@@ -179,11 +177,11 @@ fn compare(told: &mut Text, step: &[u8], came: &[u8], wanted: &[u8]) {
     if came == wanted || MOST_TOLD < told.len() {
         return;
     }
-    told.line(step);
-    told.word(b"came to:\n");
-    told.word(came);
-    told.word(b"and not to:\n");
-    told.line(wanted);
+    told.put_line(step);
+    told.put(b"came to:\n");
+    told.put(came);
+    told.put(b"and not to:\n");
+    told.put_line(wanted);
 }
 
 /// Has each file as it was before its first change.

@@ -1,10 +1,8 @@
 // The steps.
 use crate::digests::{push_commitment, push_derived, push_digests};
-use crate::parts::{cut, name_of};
 use crate::stage::Stage;
-use crate::text::Text;
 use crate::texts::{push_fields, push_numbered};
-use vk_cases::{Tried, Unreplayed, behind, number_at, word_at};
+use vk_cases::{Text, Tried, Unreplayed, behind, cut, number_at, text_in, word_at};
 
 /// Takes a step that stands behind no loop. Before it may stand `?EXPRESSION`: then it is taken
 /// where that isn't 0. Each but `set` has its places filled, first with numbers and then
@@ -66,11 +64,11 @@ fn set(stage: &mut Stage, step: &[u8]) -> Tried<()> {
 /// Takes a step whose places are filled.
 fn take_filled(stage: &mut Stage, step: &[u8]) -> Tried<()> {
     let (word, rest) = cut(step, b' ');
-    match name_of(word)? {
+    match text_in(word)? {
         "run" => return run_step(stage, rest),
-        "add" => stage.text.word(rest),
-        "line" => stage.text.line(rest),
-        "space" => stage.text.word(b" "),
+        "add" => stage.text.put(rest),
+        "line" => stage.text.put_line(rest),
+        "space" => stage.text.put(b" "),
         "tried" => stage.counts.add(rest)?,
         "forget" => stage.forget(),
         "names" => stage.files.name(rest)?,
@@ -114,7 +112,7 @@ fn run_step(stage: &mut Stage, rest: &[u8]) -> Tried<()> {
     let wanted = number_at(rest, 0, 9)?;
     let (command, line) = cut(behind(rest, 2), b'|');
     if !line.is_empty() {
-        stage.text.line(behind(line, 1));
+        stage.text.put_line(behind(line, 1));
     }
     begin(stage, command)?;
     let status = stage.run(command)?;

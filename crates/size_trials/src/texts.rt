@@ -1,21 +1,20 @@
 // Texts with places that are filled.
 use crate::numbers::Numbers;
-use crate::parts::{cut, from_line};
-use crate::text::Text;
+use crate::parts::from_line;
 use crate::watched::WatchedFiles;
-use vk_cases::{Tried, number_at, word_at};
+use vk_cases::{Text, Tried, cut, number_at, word_at};
 
 /// Appends the text with its numbers, which stand in its pairs of braces.
 pub fn push_numbered(made: &mut Text, numbers: &Numbers, text: &[u8]) -> Tried<()> {
     let mut rest = text;
     for _ in 0..=text.len() {
         let (plain, place) = cut(rest, b'{');
-        made.word(plain);
+        made.put(plain);
         if place.is_empty() {
             return Ok(());
         }
         let (expression, behind) = cut(place, b'}');
-        made.number(numbers.value(expression)?);
+        made.put_number(b"", numbers.value(expression)?);
         rest = behind;
     }
     Ok(())
@@ -27,7 +26,7 @@ pub fn push_fields(made: &mut Text, files: &WatchedFiles, text: &[u8]) -> Tried<
     let mut rest = text;
     for _ in 0..=text.len() {
         let (plain, place) = cut(rest, b'[');
-        made.word(plain);
+        made.put(plain);
         if place.is_empty() {
             return Ok(());
         }
@@ -43,6 +42,6 @@ fn push_field(made: &mut Text, files: &WatchedFiles, place: &[u8]) -> Tried<()> 
     let number = number_at(place, 1, u64::MAX)?;
     let index = number_at(place, 2, 255)?;
     let (line, _behind) = cut(from_line(files.file(word_at(place, 0)?)?, number), b'\n');
-    made.word(word_at(line, index as usize)?);
+    made.put(word_at(line, index as usize)?);
     Ok(())
 }

@@ -2,9 +2,8 @@
 // what is put and is no line.
 ghost use Rattle.std.specs.Prelude.{◌≡◌, None};
 
-use crate::parts::{cut, name_of, place_of};
 use std::alloc::Global;
-use vk_cases::Tried;
+use vk_cases::{Tried, cut, place_of, text_in};
 use vk_io::{MemShelf, MemSink, OutsideErr, Shelf, Sink};
 use vk_residue::NoMemory;
 
@@ -40,12 +39,12 @@ impl WatchedFiles {
 
     /// What the named file holds, nothing where the name isn't held.
     pub fn file(&self, name: &[u8]) -> Tried<&[u8]> {
-        Ok(self.inner.file(name_of(name)?).unwrap_or(&[]))
+        Ok(self.inner.file(text_in(name)?).unwrap_or(&[]))
     }
 
     /// Makes the named file hold these bytes.
     pub fn put(&mut self, name: &[u8], bytes: &[u8]) -> Tried<()> {
-        self.inner.put_file(name_of(name)?, bytes)?;
+        self.inner.put_file(text_in(name)?, bytes)?;
         Ok(())
     }
 
@@ -60,7 +59,7 @@ impl WatchedFiles {
 
     /// The words of the next run have those of this file too.
     pub fn name_script(&mut self, script: &[u8]) -> Tried<()> {
-        let text = self.inner.file(name_of(script)?).unwrap_or(&[]);
+        let text = self.inner.file(text_in(script)?).unwrap_or(&[]);
         for byte in text {
             self.named.push(if *byte == b'\n' { b' ' } else { *byte })?;
         }
