@@ -1,5 +1,6 @@
 //! What a run of the page works on beside a `SureShelf`: a house and a text in memory, of which no
-//! call fails. Their counts of faults stay 0, so no run over them ends with the status of a failure.
+//! call fails. Their counts of faults stay 0, so no run over them ends with the status of a
+//! failure.
 
 ghost use Rattle.std.specs.Prelude.{◌≡◌, [], IfOk};
 ghost use Rattle.std.specs.FinMap as map;
