@@ -3,8 +3,7 @@ ghost use Rattle.vk_board.specs.Values.{IsHead};
 ghost use Rattle.vk_keeper.specs.Auctions.{IsAuction, challenge_of, seed_of};
 ghost use Rattle.vk_job.specs.Answers.{JobAnswer};
 ghost use Rattle.vk_job.specs.Jobs.{IsProvedAuction, proof_of, sale_in, winner_of};
-ghost use Rattle.vk_job.specs.Proofs.{no_row, seal_lines_of};
-ghost use Rattle.vk_job.specs.Published.{board_pieces, head_of, kept_bit, lane_of, reply_pieces, shown_in};
+ghost use Rattle.vk_job.specs.Published.{board_pieces, head_of, kept_bit, shown_in};
 
 use crate::errors::JobErr;
 use crate::kept::{bit_in, seed_in};
@@ -13,10 +12,9 @@ use crate::sale::{further_wires, plan_of, price_in, sale_in, values_of, winner_o
 use crate::tapes::draw_tapes;
 use std::alloc::Global;
 use std::marker::Model;
-use vk_board::{Head, LaneLines, SealLines, head_text};
+use vk_board::{Head, head_text};
 use vk_keeper::Auction;
 use vk_plan::RowTable;
-use vk_reply::Challenge;
 use vk_residue::NoMemory;
 use vk_seq::Seq;
 use vk_vickrey::Sale;
