@@ -10,7 +10,7 @@ use vk_board::{Head, SealLines, head_text, lane_text, seal_lines_text};
 use vk_cases::{Tried, Unreplayed};
 use vk_dice::ChaChaWords;
 use vk_io::{PieceShelf, Shelf};
-use vk_plan::{Circuit, Plan, RowTable};
+use vk_plan::{Circuit, Plan};
 use vk_prover::{LaneTape, answer_lane, draw_tape, make_lane};
 use vk_reply::{Challenge, challenge_text, reply_head_text, reply_lane_text};
 use vk_residue::{NoMemory, Residue};
@@ -245,8 +245,7 @@ fn write_taped(
     requires holds { Holds plan.now values.now }
     requires one_each { length tape.now.wires ≡ length plan.now.kinds }
 {
-    let table = RowTable::of(alloc, plan)?;
-    let lines = make_lane(alloc, plan, &table, &ID, lane, values, tape)?;
+    let lines = make_lane(alloc, plan, &ID, lane, values, tape)?;
     let text = lane_text(alloc, u32::from(lane), &lines)?;
     append_lane(shelf, "board", text.as_slice())?;
     let zeros = shown_text(alloc, plan, values, tape, lane, false)?;

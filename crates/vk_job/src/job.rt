@@ -3,7 +3,8 @@ ghost use Rattle.vk_board.specs.Values.{IsHead};
 ghost use Rattle.vk_keeper.specs.Auctions.{IsAuction, challenge_of, seed_of};
 ghost use Rattle.vk_job.specs.Answers.{JobAnswer};
 ghost use Rattle.vk_job.specs.Jobs.{IsProvedAuction, proof_of, sale_in, winner_of};
-ghost use Rattle.vk_job.specs.Published.{board_pieces, head_of, kept_bit, shown_in};
+ghost use Rattle.vk_job.specs.Proofs.{no_row, seal_lines_of};
+ghost use Rattle.vk_job.specs.Published.{board_pieces, head_of, kept_bit, lane_of, shown_in};
 
 use crate::errors::JobErr;
 use crate::kept::{bit_in, seed_in};
@@ -12,7 +13,7 @@ use crate::sale::{further_wires, plan_of, price_in, sale_in, values_of, winner_o
 use crate::tapes::draw_tapes;
 use std::alloc::Global;
 use std::marker::Model;
-use vk_board::{Head, head_text};
+use vk_board::{Head, LaneLines, SealLines, head_text};
 use vk_keeper::Auction;
 use vk_plan::RowTable;
 use vk_residue::NoMemory;
@@ -113,6 +114,28 @@ impl Job {
             winner: self.winner(),
             price: price_in(self.sale),
         }
+    }
+
+    /// The seal at that position, counted from 1, as it stands on the board.
+    pub fn seal(&self, alloc: Global, position: u32) -> Result<SealLines, NoMemory>
+        requires some { 1 ≤ position }
+        requires last { position ≤ length self.now.auction.seals }
+        ensures { IfOk result
+            (λ lines. lines ≡ seal_lines_of
+            (slice_index_or self.now.auction.seals (position - 1) no_row)) }
+    {
+        let lines = self.proof().seal(alloc, position)?;
+        Ok(lines)
+    }
+
+    /// What is published of the lane, counted from 1.
+    pub fn lane(&self, alloc: Global, lane: u32) -> Result<LaneLines, NoMemory>
+        requires some { 1 ≤ lane }
+        requires last { lane ≤ self.now.auction.lanes }
+        ensures { IfOk result (λ lines. lines ≡ lane_of self.now.auction lane) }
+    {
+        let lines = self.proof().lane(alloc, lane)?;
+        Ok(lines)
     }
 
     /// What is shown of the lane, counted from 1, for its bit in the challenge that is kept. The

@@ -7,7 +7,7 @@ use std::marker::Model;
 use vk_board::{LaneLines, SealLines};
 use vk_keeper::SealRow;
 use vk_plan::{Plan, RowTable};
-use vk_prover::{LaneTape, answer_lane, make_lane};
+use vk_prover::{LaneTape, answer_lane, make_lane_with};
 use vk_residue::{NoMemory, Residue};
 use vk_seq::Seq;
 use vk_wire::Shown;
@@ -106,7 +106,7 @@ impl<'a> HonestProof<'a> {
         requires last { lane ≤ self.now.lanes }
         ensures { IfOk result (λ lines. lines ≡ lane_in self.now lane) }
     {
-        let lines = make_lane(
+        let lines = make_lane_with(
             alloc,
             &self.made.plan,
             &self.made.table,

@@ -15,9 +15,27 @@ use vk_seq::Seq;
 use vk_wire::{HonestWire, Shown, WireCom, WireTape, make, make_two, show, wire_place};
 
 /// What is published of the lane, counted from 1: the commitments to each wire after the inputs,
-/// and the posted number of each row. The values are those of all wires, and hold for the plan. A
-/// table of the plan's rows serves for every lane of the plan.
+/// and the posted number of each row. The values are those of all wires, and hold for the plan.
 pub fn make_lane(
+    alloc: Global,
+    plan: &Plan,
+    auction: &[u8; 16],
+    lane: u16,
+    values: &[Residue],
+    tape: &LaneTape,
+) -> Result<LaneLines, NoMemory>
+    requires holds { Holds plan.now values.now }
+    requires one_each { length tape.now.wires ≡ length plan.now.kinds }
+    ensures { IfOk result
+        (λ lines. lines ≡ honest_lane plan.now auction.now lane values.now tape.now.wires) }
+{
+    let table = RowTable::of(alloc, plan)?;
+    let lines = make_lane_with(alloc, plan, &table, auction, lane, values, tape)?;
+    Ok(lines)
+}
+
+/// The same with a table of the plan's rows, which serves for every lane of the plan.
+pub fn make_lane_with(
     alloc: Global,
     plan: &Plan,
     table: &RowTable,

@@ -5,7 +5,7 @@ mod honest;
 mod laws;
 mod tape;
 
-pub use honest::{answer_lane, make_lane};
+pub use honest::{answer_lane, make_lane, make_lane_with};
 pub use laws::{
     honest_lanes_are_of_their_form, honest_replies_are_accepted,
     replies_of_held_values_are_accepted,

@@ -13,11 +13,33 @@ use vk_plan::{Plan, RowTable};
 use vk_residue::Residue;
 use vk_wire::Shown;
 
-/// The halves of the wires of the lane, if each wire reads one and each row is met. A table of the
-/// plan's rows serves for every lane of the plan.
+/// The halves of the wires of the lane, if each wire reads one and each row is met.
 ///
 /// Each wire is to read its half for the bit, and the halves are to meet each row with its posted
 /// number. The first wire in order that reads nothing is named, else the first row that isn't met.
+pub fn check_lane(
+    alloc: Global,
+    plan: &Plan,
+    case: &LaneCase,
+    bit: bool,
+    shown: &[Shown],
+) -> Result<Vec<Residue>, LaneFault>
+    requires { HasCounts plan.now case.now shown.now }
+    ensures accepted { IfOk result
+        (λ halves. IsAcceptedLane plan.now case.now bit shown.now halves.items) }
+    ensures refused { IfErr result
+        (λ fault. (fault ≡ OutOfMemory) ⊎ HasLaneFault plan.now case.now bit shown.now fault) }
+    ensures halves { IfOk result
+        (λ halves. checked_lane plan.now case.now bit shown.now ≡ Ok halves.items) }
+    ensures fault { IfErr result
+        (λ fault. (fault ≡ OutOfMemory)
+        ⊎ (checked_lane plan.now case.now bit shown.now ≡ Err fault)) }
+{
+    let table = RowTable::of(alloc, plan)?;
+    check_lane_with(alloc, plan, &table, case, bit, shown)
+}
+
+/// The same with a table of the plan's rows, which serves for every lane of the plan.
 #[tactic(auto, using(crate::proofs::Whole::ok_accepted, crate::proofs::Whole::err_faulty), unfolding(crate::specs::LaneTests::checked_lane))]
 pub fn check_lane_with(
     alloc: Global,

@@ -8,6 +8,6 @@ mod row;
 mod wires;
 
 pub use case::{LaneCase, LaneFault};
-pub use lane::check_lane_with;
+pub use lane::{check_lane, check_lane_with};
 pub use laws::checked_lanes_are_those_accepted;
 pub use row::{check, posted};

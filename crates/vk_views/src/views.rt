@@ -5,7 +5,7 @@ ghost use Rattle.vk_prover.specs.Honest.{honest_lane, honest_reply};
 ghost use Rattle.vk_views.specs.Views.{view_of};
 
 use std::alloc::Global;
-use vk_plan::{Plan, RowTable};
+use vk_plan::Plan;
 use vk_prover::{LaneTape, answer_lane, make_lane};
 use vk_residue::{NoMemory, Residue};
 use vk_seq::Seq;
@@ -43,8 +43,7 @@ pub fn view(
         → view.posted ≡ (honest_lane plan.now auction lane values.now tape.now.wires).posted) }
 {
     let shown = answer_lane(alloc, plan, values, tape, bit)?;
-    let table = RowTable::of(alloc, plan)?;
-    let lines = make_lane(alloc, plan, &table, &ANY_AUCTION, ANY_LANE, values, tape)?;
+    let lines = make_lane(alloc, plan, &ANY_AUCTION, ANY_LANE, values, tape)?;
     Ok(LaneView {
         shown,
         posted: lines.posted,

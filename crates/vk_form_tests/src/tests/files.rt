@@ -9,7 +9,7 @@ use std::test::Fail;
 use vk_board::{LaneLines, SealLines, lane_text, seal_lines_text};
 use vk_dice::ChaChaWords;
 use vk_io::{MemShelf, Shelf};
-use vk_plan::{Circuit, Plan, RowTable};
+use vk_plan::{Circuit, Plan};
 use vk_prover::{LaneTape, answer_lane, draw_tape, make_lane};
 use vk_reply::{reply_head_text, reply_lane_text};
 use vk_residue::{NoMemory, Residue};
@@ -183,8 +183,7 @@ fn lane_with(
     requires holds { Holds plan.now values.now }
     requires one_each { length tape.now.wires ≡ length plan.now.kinds }
 {
-    let table = RowTable::of(alloc, plan)?;
-    let lines = make_lane(alloc, plan, &table, &AUCTION, lane, values, tape)?;
+    let lines = make_lane(alloc, plan, &AUCTION, lane, values, tape)?;
     let zero = answer_lane(alloc, plan, values, tape, false)?;
     let one = answer_lane(alloc, plan, values, tape, true)?;
     Ok(Lane { lines, zero, one })

@@ -127,7 +127,7 @@ fn try_published(rt: &impl Abort, alloc: Global, job: &Job) -> Result<(), Fail>
 fn seal_of(alloc: Global, job: &Job) -> Result<Vec<u8>, NoMemory>
     requires { length job.now.auction.seals ≡ 3 }
 {
-    let seal = job.proof().seal(alloc, 3)?;
+    let seal = job.seal(alloc, 3)?;
     let text = seal_lines_text(alloc, &seal)?;
     Ok(text)
 }
@@ -135,7 +135,7 @@ fn seal_of(alloc: Global, job: &Job) -> Result<Vec<u8>, NoMemory>
 fn lane_of(alloc: Global, job: &Job) -> Result<Vec<u8>, NoMemory>
     requires { job.now.auction.lanes ≡ 3 }
 {
-    let lane = job.proof().lane(alloc, 2)?;
+    let lane = job.lane(alloc, 2)?;
     let text = lane_text(alloc, 2, &lane)?;
     Ok(text)
 }

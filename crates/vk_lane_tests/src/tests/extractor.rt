@@ -5,8 +5,8 @@ ghost use Rattle.vk_plan.specs.Plans.{HasWeight, MayHave};
 ghost use Rattle.vk_plan.specs.declared.wire.WireKind.TheVariants.{Pair};
 
 use super::numbers::{
-    AUCTION, BID, COPY, MINUS_ONE, accepted_halves, case_of_two, half, has_counts, opening,
-    plan_of_two, posted_number, residue, seat_7,
+    AUCTION, BID, COPY, MINUS_ONE, case_of_two, half, has_counts, opening, plan_of_two,
+    posted_number, residue, seat_7,
 };
 use std::alloc::Global;
 use std::panic::Expect;
@@ -15,7 +15,7 @@ use vk_commit::{Opening, Place, opens};
 use vk_extractor::{confront, extract_lane};
 use vk_plan::{Plan, WireKind};
 use vk_residue::{NoMemory, Residue};
-use vk_row::LaneCase;
+use vk_row::{LaneCase, check_lane};
 use vk_seal::{Secret, XTape};
 use vk_seq::Seq;
 use vk_wire::{Shown, WireCom, WireTape, make, show, wire_place};
@@ -32,8 +32,8 @@ fn values_of_lane(
     requires zero { HasCounts plan.now case.now zero.now }
     requires one { HasCounts plan.now case.now one.now }
 {
-    let _firsts = accepted_halves(rt, alloc, plan, case, false, zero);
-    let _seconds = accepted_halves(rt, alloc, plan, case, true, one);
+    let _firsts = check_lane(alloc, plan, case, false, zero).expect(rt, "accepted for bit 0");
+    let _seconds = check_lane(alloc, plan, case, true, one).expect(rt, "accepted for bit 1");
     extract_lane(alloc, plan, case, zero, one).expect(rt, "no clash")
 }
 

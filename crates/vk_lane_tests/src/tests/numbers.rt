@@ -10,9 +10,9 @@ use std::alloc::Global;
 use std::panic::Expect;
 use std::process::Abort;
 use vk_commit::Opening;
-use vk_plan::{Form, Plan, RowTable, Term, WireKind};
+use vk_plan::{Form, Plan, Term, WireKind};
 use vk_residue::{NoMemory, Residue};
-use vk_row::{LaneCase, check_lane_with};
+use vk_row::{LaneCase, check_lane};
 use vk_seq::Seq;
 use vk_wire::{Shown, WireCom};
 
@@ -162,8 +162,7 @@ pub fn accepted_halves(
     shown: &[Shown],
 ) -> Vec<Residue> {
     assert!(rt; has_counts(plan, case, shown), "not one of each");
-    let table = RowTable::of(alloc, plan).expect(rt, "a table");
-    check_lane_with(alloc, plan, &table, case, bit, shown).expect(rt, "accepted")
+    check_lane(alloc, plan, case, bit, shown).expect(rt, "accepted")
 }
 
 /// Whether there is one of each for the plan.

@@ -9,7 +9,7 @@ use std::panic::Expect;
 use std::process::Abort;
 use vk_board::LaneLines;
 use vk_dice::{ChaChaWords, ListWords, Words};
-use vk_plan::{Circuit, Plan, RowTable, WireKind};
+use vk_plan::{Circuit, Plan, WireKind};
 use vk_prover::{DrawErr, LaneTape, answer_lane, draw_tape, make_lane};
 use vk_residue::{NoMemory, Residue};
 use vk_row::LaneCase;
@@ -156,8 +156,7 @@ fn lines_of_a_bit(
     assert!(rt; values == [Residue::ZERO; 3].as_slice());
     try_shown(rt, alloc, plan, values, tape, false)?;
     try_shown(rt, alloc, plan, values, tape, true)?;
-    let table = RowTable::of(alloc, plan)?;
-    let lines = make_lane(alloc, plan, &table, &AUCTION, 1, values, tape)?;
+    let lines = make_lane(alloc, plan, &AUCTION, 1, values, tape)?;
     check_lines(rt, &lines);
     Ok(lines)
 }
@@ -329,8 +328,7 @@ fn try_lane(
     requires holds { Holds plan.now values.now }
     requires one_each { length tape.now.wires ≡ length plan.now.kinds }
 {
-    let table = RowTable::of(alloc, plan)?;
-    let lines = make_lane(alloc, plan, &table, &AUCTION, 2, values, tape)?;
+    let lines = make_lane(alloc, plan, &AUCTION, 2, values, tape)?;
     let counts = [lines.coms.len(), lines.posted.len()];
     let seals = [seal_com(0), seal_com(1), seal_com(2)];
     let case = case_of(alloc, 2, &SEATS, &seals, lines)?;

@@ -10,7 +10,7 @@ use std::alloc::Global;
 use std::process::Abort;
 use vk_plan::{Form, Plan, RowTable, WireKind};
 use vk_residue::{NoMemory, Residue};
-use vk_row::{LaneCase, LaneFault, check, check_lane_with, posted};
+use vk_row::{LaneCase, LaneFault, check, check_lane, check_lane_with, posted};
 use vk_wire::{Shown, WireFault};
 
 const POSTED: u64 = 2305843009213693944;
@@ -45,7 +45,7 @@ fn try_wrong(rt: &impl Abort, alloc: Global) -> Result<(), NoMemory> {
     let table = RowTable::of(alloc, &plan)?;
     try_refused(rt, alloc, &plan, &table, &case, false);
     try_refused(rt, alloc, &plan, &table, &case, true);
-    the_first_wire_that_reads_nothing_is_named(rt, alloc, &plan, &table, &case);
+    the_first_wire_that_reads_nothing_is_named(rt, alloc, &plan, &case);
     Ok(())
 }
 
@@ -95,14 +95,11 @@ fn the_first_wire_that_reads_nothing_is_named(
     rt: &impl Abort,
     alloc: Global,
     plan: &Plan,
-    table: &RowTable,
     case: &LaneCase,
-)
-    requires { table.now ≡ plan.now.rows }
-{
+) {
     let shown = [half(0x11, 3), half(0x33, 11)];
     assert!(rt; has_counts(plan, case, &shown));
-    let refused = check_lane_with(alloc, plan, table, case, false, &shown).err();
+    let refused = check_lane(alloc, plan, case, false, &shown).err();
     let fault = WireFault::Digest { second: false };
     assert!(rt; refused == Some(LaneFault::Wire { wire: 1, fault }));
 }
