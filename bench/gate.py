@@ -1,12 +1,13 @@
 #!/usr/bin/env python3
 """bench/gate.py [--table FILE]: runs `rt ci` at the top, and says what it spent, crate by crate.
 
-What `rt ci` prints is printed, and its status is the script's. Then a table in FILE, or behind it: seconds of a processor of
-each crate, the dearest first, for its proof, its tests, compiling, its runs, and its must-fail edits with what they begin
-with; how long the longest chain of proofs is; and what the whole took, by the system's own count. Ten times a second it looks
-at the processes that `rt ci` began: of each the last look counts, so a row is short by less than a tenth of a second for each
-of its processes. RT_JOBS says how many crates are proved at a time, as for `rt ci`; `taskset -c 0,1 bench/gate.py` has the gate
-on two processors.
+What `rt ci` prints is printed, and its status is the script's. Then a table in FILE, or behind it:
+seconds of a processor of each crate, the dearest first, for its proof, its tests, compiling, its
+runs, and its must-fail edits with what they begin with; how long the longest chain of proofs is;
+and what the whole took, by the system's own count. Ten times a second it looks at the processes
+that `rt ci` began: of each the last look counts, so a row is short by less than a tenth of a second
+for each of its processes. RT_JOBS says how many crates are proved at a time, as for `rt ci`;
+`taskset -c 0,1 bench/gate.py` has the gate on two processors.
 """
 import argparse
 import os
@@ -37,7 +38,7 @@ def words_of(pid):
 
 
 def label_of(pid):
-    """The crate and the part that a process works for, by its words and its folder. None where it doesn't say so itself."""
+    """The crate and the part that a process works for. None where it doesn't say so itself."""
     words, folder = words_of(pid), os.readlink(f"/proc/{pid}/cwd")
     ran = re.search(r"/rt-run-[^/]+/bin/(\w+?)(_tests)?$", "\n".join(words), re.MULTILINE)
     if ran:
@@ -109,15 +110,16 @@ def table(rows, whole, clock):
     for crate, spent in sorted(rows.items(), key=lambda row: -sum(row[1].values())):
         cells = [f"{spent[part]:.0f}" if spent[part] >= 0.5 else "" for part in PARTS]
         yield f"| {crate} | " + " | ".join(cells) + f" | {sum(spent.values()):.0f} |"
-    sums = [f"{sum(spent[part] for spent in rows.values()):.0f}" for part in PARTS]
-    yield "| all | " + " | ".join(sums) + f" | {sum(sum(spent.values()) for spent in rows.values()):.0f} |"
+    sums = [sum(spent[part] for spent in rows.values()) for part in PARTS]
+    yield "| all | " + " | ".join(f"{it:.0f}" for it in [*sums, sum(sums)]) + " |"
     seconds, crates = longest_chain(rows)
     yield f"\nThe longest chain: {len(crates)} crates, {seconds:.0f} seconds: {' '.join(crates)}."
-    yield f"By the system's count: {whole / 60:.1f} minutes of a processor, {clock / 60:.1f} by the clock."
+    yield f"By the system: {whole / 60:.1f} minutes of a processor, {clock / 60:.1f} by the clock."
 
 
 def main(words):
-    parser = argparse.ArgumentParser(description=__doc__, formatter_class=argparse.RawDescriptionHelpFormatter)
+    parser = argparse.ArgumentParser(description=__doc__,
+                                     formatter_class=argparse.RawDescriptionHelpFormatter)
     parser.add_argument("--table", metavar="FILE")
     options = parser.parse_args(words)
     began = time.monotonic()
@@ -127,9 +129,9 @@ def main(words):
             looks.look()
             time.sleep(0.1)
     used = resource.getrusage(resource.RUSAGE_CHILDREN)
-    lines = "\n".join(table(looks.by_crate(), used.ru_utime + used.ru_stime, time.monotonic() - began))
+    whole, clock = used.ru_utime + used.ru_stime, time.monotonic() - began
     with open(options.table or "/dev/stdout", "w", encoding="utf-8") as out:
-        print(lines, file=out)
+        print("\n".join(table(looks.by_crate(), whole, clock)), file=out)
     return gate.returncode
 
 
