@@ -40,9 +40,9 @@ def words_of(pid):
 def label_of(pid):
     """The crate and the part that a process works for. None where it doesn't say so itself."""
     words, folder = words_of(pid), os.readlink(f"/proc/{pid}/cwd")
-    ran = re.search(r"/rt-run-[^/]+/bin/(\w+?)(_tests)?$", "\n".join(words), re.MULTILINE)
+    ran = re.search(r"/rt-run-[^/]+/bin/(\w+)$", "\n".join(words), re.MULTILINE)
     if ran:
-        return ran[1], "runs"
+        return ran[1].replace("_tests_tests", "_tests"), "runs"
     if "--crate-name" not in words:
         return None
     crate = words[words.index("--crate-name") + 1]
@@ -57,7 +57,7 @@ class Looks:
     """What was seen of the processes below one."""
 
     def __init__(self, root):
-        self.root, self.labels, self.spent = root, {root: OWN}, {}
+        self.root, self.labels, self.spent = root, {}, {}
 
     def look(self):
         found = {}
@@ -66,19 +66,22 @@ class Looks:
                 found[int(name)] = stat_of(name)
             except OSError:
                 continue  # it ended meanwhile
-        below = {self.root}
+        below = {self.root: OWN}
         for pid in sorted(found, key=lambda it: int(found[it][1])):
             parent, began, spent = found[pid]
-            if pid == self.root or parent in below:
-                below.add(pid)
-                self.labels[pid] = self.label(pid) or self.labels.get(parent, OWN)
-                self.spent[pid, began] = self.labels[pid], spent
+            if parent in below:
+                below[pid] = self.label(pid, began) or below[parent]
+                self.spent[pid, began] = below[pid], spent
+            elif pid == self.root:
+                self.spent[pid, began] = OWN, spent
 
-    def label(self, pid):
+    def label(self, pid, began):
+        """What the process said of itself: once it ends it has no words any more."""
         try:
-            return OWN if pid == self.root else label_of(pid)
+            self.labels[pid, began] = label_of(pid) or self.labels.get((pid, began))
         except OSError:
-            return self.labels.get(pid)
+            pass
+        return self.labels.get((pid, began))
 
     def by_crate(self):
         """The seconds of each crate, by their part."""
