@@ -114,8 +114,8 @@ def rows():
                                    ("far_trials", "the largest files, and damage at far places", ""),
                                    ("edge_trials", "the real files and an output, and calls to the system that go wrong",
                                     trials("edge_trials", "steps")),
-                                   ("program_trials", "the program over a store in real files, and over a house, files and errors in memory",
-                                    trials("program_trials", "memory", "folder")),
+                                   ("program_trials", "the program over a store in real files", trials("program_trials", "steps")),
+                                   ("house_trials", "the program over a house, files and errors in memory", trials("house_trials", "steps")),
                                    ("size_trials", "every command at every size", sizes("size_trials"))):
         yield f"`{program}`, a program that tries {what}", f"{data_of}{lines(program, 'stdout')} lines", "`rt run` in the crate"
     with open(os.path.join(TOP, "crates", "vickrey", "args"), encoding="utf-8") as file:

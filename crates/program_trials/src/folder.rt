@@ -1,14 +1,14 @@
 // The program over the folder that it runs in, whose house is one file.
 use crate::making::make;
-use crate::running::{ended, status_of};
 use crate::seeing::see;
-use crate::steps::{Stage, behind_word, push, text_at};
 use std::fs;
 use std::rt::Files;
-use vk_cases::{Tried, Unreplayed, behind, text_in, words_of};
+use vk_cases::{
+    Stage, Tried, Unreplayed, behind, behind_word, status_of, tell_text, text_at, text_in, words_of,
+};
 use vk_files::{FileShelf, OutSink};
 use vk_lines::push_decimal;
-use vk_program::{HousePlace, STORE, StoreHouse};
+use vk_program::{HousePlace, STORE, StoreHouse, program};
 
 /// What the commands of a trial leave in the folder.
 const LEFT: [&str; 14] = [
@@ -35,7 +35,7 @@ pub struct Folder<'a> {
 }
 
 /// With which status the program of these words ends over that house and the files that `rt`
-/// reaches. It is generic since a shelf over those of the system is dearer to drop.
+/// reaches, where the first stands for the program's name. It is generic since a shelf over those of the system is dearer to drop.
 fn status_over<R: Eprint + Print + AllocGlobal + Files, H: HousePlace>(
     rt: &R,
     words: Vec<String>,
@@ -43,7 +43,7 @@ fn status_over<R: Eprint + Print + AllocGlobal + Files, H: HousePlace>(
 ) -> u64 {
     let mut shelf = FileShelf::new(rt, rt.alloc(), STORE);
     let mut out = OutSink::new(rt);
-    let (code, _house) = ended(rt, words, house, &mut shelf, &mut out);
+    let (code, _house) = program(Ok(words.into_iter()), rt, house, &mut shelf, &mut out);
     status_of(code)
 }
 
@@ -103,7 +103,7 @@ impl Stage for Folder<'_> {
                 let name = text_at(step, 1)?;
                 let rest = behind(behind_word(step, word), name.len().saturating_add(1));
                 match make(self.rt, word, name, text_in(rest)?) {
-                    Ok(()) => push(told, "made"),
+                    Ok(()) => tell_text(told, "made"),
                     Err(_) => Err(Unreplayed::Outside),
                 }
             }

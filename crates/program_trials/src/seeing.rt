@@ -1,8 +1,7 @@
 // What a person sees of a file.
-use crate::steps::push;
 use std::fs;
 use std::os::unix::fs::PermissionsExt;
-use vk_cases::Tried;
+use vk_cases::{Tried, tell_text};
 use vk_lines::push_decimal;
 
 /// Of more bytes than these it isn't told how many they are.
@@ -12,7 +11,7 @@ const MOST_TOLD: u64 = 9;
 pub fn see(rt: &HostRuntime, name: &str, told: &mut Vec<u8>) -> Tried<()> {
     match fs::metadata(rt, name) {
         Ok(metadata) => tell(metadata.permissions().mode(), metadata.len(), told),
-        Err(_) => push(told, "nothing"),
+        Err(_) => tell_text(told, "nothing"),
     }
 }
 
@@ -20,9 +19,9 @@ fn tell(mode: u32, length: u64, told: &mut Vec<u8>) -> Tried<()> {
     let digits = mode / 64 % 8 * 100 + mode / 8 % 8 * 10 + mode % 8;
     push_decimal(told, u64::from(digits))?;
     if length > MOST_TOLD {
-        return push(told, ", more bytes");
+        return tell_text(told, ", more bytes");
     }
-    push(told, ", ")?;
+    tell_text(told, ", ")?;
     push_decimal(told, length)?;
-    push(told, " bytes")
+    tell_text(told, " bytes")
 }

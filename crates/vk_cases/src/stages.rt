@@ -1,7 +1,10 @@
-// Steps, and what is told of each.
+// Trials that are files of steps, and what is told of each step.
+use crate::cases::{behind, read_cases, word_at};
+use crate::parts::text_in;
+use crate::unreplayed::Tried;
 use std::alloc::Global;
-use vk_cases::{Tried, behind, text_in, word_at};
-use vk_io::Sink;
+use std::process::ExitCode;
+use vk_io::{Shelf, Sink};
 use vk_lines::end_line;
 
 /// What steps are taken on.
@@ -13,15 +16,17 @@ pub trait Stage {
     fn take(&mut self, word: &str, step: &[u8], told: &mut Vec<u8>) -> Tried<()>;
 }
 
-/// Takes the steps, one a line, and tells of each.
-pub fn take_steps<T: Stage, W: Sink>(
+/// Takes the steps of the file of that name, one a line, and tells of each.
+pub fn take_file<T: Stage, S: Shelf, W: Sink>(
     alloc: Global,
     stage: &mut T,
-    steps: &[u8],
+    folder: &mut S,
+    name: &str,
     out: &mut W,
 ) -> Tried<()> {
+    let steps = read_cases(alloc, folder, name)?;
     let mut told = Vec::new(alloc);
-    let taken = take_each(stage, steps, out, &mut told);
+    let taken = take_each(stage, steps.as_slice(), out, &mut told);
     taken
 }
 
@@ -49,7 +54,7 @@ fn tell_step<T: Stage>(stage: &mut T, step: &[u8], told: &mut Vec<u8>) -> Tried<
     if word == "#" {
         stage.begin();
     } else {
-        push(told, ": ")?;
+        tell_text(told, ": ")?;
         stage.take(word, step, told)?;
     }
     end_line(told)?;
@@ -57,7 +62,7 @@ fn tell_step<T: Stage>(stage: &mut T, step: &[u8], told: &mut Vec<u8>) -> Tried<
 }
 
 /// Puts the text behind what is told.
-pub fn push(told: &mut Vec<u8>, text: &str) -> Tried<()> {
+pub fn tell_text(told: &mut Vec<u8>, text: &str) -> Tried<()> {
     told.extend_from_slice(text.as_bytes())?;
     Ok(())
 }
@@ -70,4 +75,14 @@ pub fn text_at(step: &[u8], place: usize) -> Tried<&str> {
 /// What stands behind the first word of a step, and behind the space that ends it.
 pub fn behind_word<'a>(step: &'a [u8], word: &str) -> &'a [u8] {
     behind(step, word.len().saturating_add(1))
+}
+
+/// The status that a program of that code ends with, and 10 where it is none of 0 to 9.
+pub fn status_of(code: ExitCode) -> u64 {
+    for status in 0..10 {
+        if code == ExitCode::from(status) {
+            return u64::from(status);
+        }
+    }
+    10
 }

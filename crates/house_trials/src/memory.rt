@@ -1,18 +1,16 @@
 // The program over what stands in for the outside.
 ghost use Rattle.std.specs.Prelude.{◌≤◌};
 
-use crate::running::{ended, status_of};
 use crate::standing_in::{Errors, MemFiles, MemHouse};
-use crate::steps::{Stage, push, text_at};
 use std::alloc::Global;
 use std::cell::{Cell, RefCell};
 use std::process::ExitCode;
-use vk_cases::{Tried, Unreplayed, number_at, words_of};
+use vk_cases::{Stage, Tried, Unreplayed, number_at, status_of, tell_text, text_at, words_of};
 use vk_io::MemSink;
 use vk_keeper::MemKeeper;
 use vk_keeper_sql::OpenErr;
 use vk_lines::push_decimal;
-use vk_program::{Unopened, end};
+use vk_program::{Unopened, end, program};
 
 /// What stands in: files, what becomes of the house, how often it was opened, and what was said on
 /// standard error.
@@ -50,7 +48,8 @@ impl Memory {
         Ok(push_decimal(told, status_of(code))?)
     }
 
-    /// With which code the program of these words ends. What is kept stays for the next command.
+    /// With which code the program of these words ends, of which the first stands for its name. What
+    /// is kept stays for the next command.
     fn code_of(&mut self, words: Vec<String>) -> ExitCode {
         let house = MemHouse {
             alloc: self.alloc,
@@ -63,7 +62,8 @@ impl Memory {
         };
         let mut out = MemSink::new(self.alloc);
         let errors = (Errors { said: &self.said }, self.alloc);
-        let (code, house) = ended(&errors, words, house, &mut self.files, &mut out);
+        let words = Ok(words.into_iter());
+        let (code, house) = program(words, &errors, house, &mut self.files, &mut out);
         self.kept = house.kept;
         code
     }
@@ -71,7 +71,7 @@ impl Memory {
     /// Tells all that was said on standard error since the trial began.
     fn tell_said(&self, told: &mut Vec<u8>) -> Tried<()> {
         match self.said.try_borrow() {
-            Ok(said) => push(told, said.as_str()),
+            Ok(said) => tell_text(told, said.as_str()),
             Err(_) => Err(Unreplayed::Outside),
         }
     }
@@ -133,6 +133,6 @@ impl Stage for Memory {
             "settling" => self.files.settling_fails = how == "fails",
             _ => return Err(Unreplayed::NoCase),
         }
-        push(told, "so")
+        tell_text(told, "so")
     }
 }
