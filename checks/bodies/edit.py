@@ -2,7 +2,6 @@
 import glob
 import hashlib
 import os
-import re
 import sys
 
 PARTS = ("src", "specs", "proofs")
@@ -27,7 +26,11 @@ class Edit:
     def pairs(self):
         """The changes in turn: in which file, which text, and what is to stand there."""
         found, path, old = [], "", ""
-        for word, rest in re.findall(r"^(file|old|new):(?: (.*))?$", self.text, re.MULTILINE):
+        for line in filter(None, self.text.split("\n")):
+            word, colon, rest = line.partition(":")
+            rest = rest[1:] if rest.startswith(" ") else rest
+            if word not in ("file", "old", "new") or not colon:
+                raise Fault(f"a line of it begins with no 'file:', 'old:' or 'new:': {line.strip()}")
             if word == "file":
                 path = rest.strip()
                 if os.path.normpath(path) != path or path.split("/")[0] not in PARTS:
@@ -36,6 +39,8 @@ class Edit:
                 old = rest
             elif not path or not old:
                 raise Fault("a line 'new:' has no 'file:' and 'old:' above it")
+            elif rest == old:
+                raise Fault("it changes nothing: an old text and its new one are the same")
             else:
                 found.append((path, old, rest))
                 old = ""
