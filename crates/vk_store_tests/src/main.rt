@@ -3,7 +3,6 @@
 //! files. Of each case it prints what came.
 #![tactic(auto)]
 
-mod commands;
 mod lent;
 mod sessions;
 mod stopping;
