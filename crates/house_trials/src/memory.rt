@@ -48,8 +48,8 @@ impl Memory {
         Ok(push_decimal(told, status_of(code))?)
     }
 
-    /// With which code the program of these words ends, of which the first stands for its name. What
-    /// is kept stays for the next command.
+    /// With which code the program of these words ends, of which the first stands for its name.
+    /// What is kept stays for the next command.
     fn code_of(&mut self, words: Vec<String>) -> ExitCode {
         let house = MemHouse {
             alloc: self.alloc,

@@ -35,7 +35,8 @@ pub struct Folder<'a> {
 }
 
 /// With which status the program of these words ends over that house and the files that `rt`
-/// reaches, where the first stands for the program's name. It is generic since a shelf over those of the system is dearer to drop.
+/// reaches, where the first word stands for the program's name. It is generic since a shelf over
+/// those of the system is dearer to drop.
 fn status_over<R: Eprint + Print + AllocGlobal + Files, H: HousePlace>(
     rt: &R,
     words: Vec<String>,
