@@ -3,6 +3,7 @@
 //! files. Of each case it prints what came.
 #![tactic(auto)]
 
+mod commands;
 mod lent;
 mod sessions;
 mod stopping;

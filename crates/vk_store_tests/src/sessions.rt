@@ -1,8 +1,8 @@
 // Stores that are closed and opened again, changed, and made by other programs.
+use crate::commands::{Task, behind_word};
 use crate::stores::Image;
 use std::alloc::Global;
 use vk_cases::{Text, Tried, Unreplayed, number_at, text_in, text_of, word_at};
-use vk_house_cases::{Task, behind_word};
 use vk_io::{Content, Shelf, read_whole};
 
 /// How the store that statements change is made.

@@ -1,10 +1,10 @@
 // A command that is stopped at each call of the files, and what is found once the machine comes
 // back.
+use crate::commands::Task;
 use crate::sessions::{change, make, said_of};
 use crate::stores::{Image, Session};
 use std::alloc::Global;
 use vk_cases::{Tried, Unreplayed};
-use vk_house_cases::Task;
 
 /// More calls than a command makes.
 const MOST_CALLS: u64 = 500;

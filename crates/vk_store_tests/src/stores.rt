@@ -1,12 +1,12 @@
 // Stores in memory: what their files hold, how they are opened and closed, and what is done to them
 // between.
+use crate::commands::Task;
 use crate::lent::Lent;
 use crate::texts::put_unopened;
 use sqlite::{Alter, Connection, FileStore, Files, Options};
 use sqlite_disk::{Crash, Disk, Fuse, Memory};
 use std::alloc::Global;
 use vk_cases::{Text, Tried, Unreplayed};
-use vk_house_cases::Task;
 use vk_keeper_sql::SqlKeeper;
 
 /// What the files of a store hold.
