@@ -31,14 +31,15 @@ fn ch(x: u32x4, y: u32x4, z: u32x4) -> u32x4
     (x & y) ^ (!x & z)
 }
 
-/// Maj in four operations, where the standard writes five.
+/// Maj in four operations, where the standard writes five. Of these a round takes three, since its
+/// `y` and `z` are the `x` and `y` of the round before.
 #[inline(always)]
 #[tactic(auto, using(crate::proofs::Lanes::lanes, crate::proofs::Majority::maj_in_four))]
 fn maj(x: u32x4, y: u32x4, z: u32x4) -> u32x4
     ensures { (j : ℕ) → j < 4
         → slice_index result j ≡ maj (slice_index x j) (slice_index y j) (slice_index z j) }
 {
-    (x & (y ^ z)) ^ (y & z)
+    ((x ^ y) & (y ^ z)) ^ y
 }
 
 #[inline(always)]
