@@ -15,7 +15,7 @@ use Rattle.vk_wire.specs.declared.wire.WireCom.{WireCom}
 use Rattle.vk_wire.specs.declared.wire.WireTape.{WireTape}
 use Rattle.vk_wire.specs.declared.wire.Shown.{Shown}
 use Rattle.vk_row.specs.Rows.{HasSide}
-use Rattle.vk_row.specs.Lanes.{HasCounts, IsAcceptedLane, WireReads, RowHolds, no_digests, nothing_shown}
+use Rattle.vk_row.specs.Lanes.{HasCounts, IsAcceptedLane, OfWire, RowHolds, no_digests, nothing_shown}
 use Rattle.vk_row.specs.LaneTests.{checked_lane}
 use Rattle.vk_row.proofs.Whole.{accepted_ok}
 use Rattle.vk_prover.specs.Honest.{each_wire, com_of, shown_of, honest_coms, honest_posted, honest_lane, honest_case, honest_reply, honest_halves, masks, posted_on, no_tape}
@@ -40,7 +40,7 @@ made_reads kind place value tape bit weight may small small_mask = search rules
 wire_reads : (plan : PlanValue) (auction : List ℕ) (lane : ℕ) (seats values : List ℕ)
     (tape : List WireTape) (bit : Bool) (w : ℕ) → IsHonest plan seats values tape
     → w < length plan.kinds
-    → WireReads plan (honest_case plan auction lane seats values tape) bit
+    → OfWire Reads plan (honest_case plan auction lane seats values tape) bit
     (honest_reply plan.kinds values tape bit) w (slice_index (honest_halves values tape bit) w)
 wire_reads plan auction lane seats values tape bit w honest lt =
     let same_values : length values ≡ length plan.kinds = honest.values_hold.one_each in

@@ -1,5 +1,5 @@
 -- What definitions compute of a lane: its halves, or its first fault.
-use Rattle.std.specs.Prelude.{◌≡◌, ℕ, ◌+◌, ◌<◌, Bool, List, [], ◌∷◌, ◌++◌, length, drop, slice_index_or, Option, Some, None, Result, Ok, Err, if◌then◌else◌}
+use Rattle.std.specs.Prelude.{◌≡◌, ◌⊎◌, ℕ, ◌+◌, ◌<◌, Bool, List, [], ◌∷◌, ◌++◌, length, drop, slice_index_or, Option, Some, None, Result, Ok, Err, IfOk, IfErr, if◌then◌else◌}
 use Rattle.vk_residue.specs.Steps.{◌>>=◌}
 use Rattle.vk_plan.specs.Plans.{PlanValue}
 use Rattle.vk_plan.specs.declared.form.Form.{Form}
@@ -12,9 +12,9 @@ use Rattle.vk_wire.specs.declared.wire.Shown.{Shown}
 use Rattle.vk_wire.specs.declared.wire.WireFault.{WireFault}
 use Rattle.vk_row.specs.declared.case.LaneCase.{LaneCase}
 use Rattle.vk_row.specs.declared.case.LaneFault.{LaneFault}
-use Rattle.vk_row.specs.declared.case.LaneFault.TheVariants.{Wire, Row}
+use Rattle.vk_row.specs.declared.case.LaneFault.TheVariants.{Wire, Row, NoMemory}
 use Rattle.vk_row.specs.Rows.{has_side}
-use Rattle.vk_row.specs.Lanes.{place_in, nothing_opened, nothing_shown}
+use Rattle.vk_row.specs.Lanes.{HasLaneFault, IsAcceptedLane, place_in, nothing_opened, nothing_shown}
 
 -- a fault is that of the wire
 abbrev pub at_wire : ℕ → Result ℕ WireFault → Result ℕ LaneFault
@@ -60,3 +60,15 @@ unfoldable pub checked_lane : PlanValue → LaneCase → Bool → List Shown →
 checked_lane plan case bit shown = do
   halves ← halves_from case bit [] plan.kinds case.coms shown
   judged halves (first_false_row bit halves 0 plan.rows case.posted)
+
+-- what is answered of what is shown of a lane, with the numbers of the answer: its halves, where it
+-- is accepted, else its first fault, or that there was no memory
+pub record JudgesLane {V : Type 0} (plan : PlanValue) (case : LaneCase) (bit : Bool)
+    (shown : List Shown) (numbers : V → List ℕ) (result : Result V LaneFault) : Type 0 where
+  pub accepted : IfOk result (λ halves. IsAcceptedLane plan case bit shown (numbers halves))
+  pub refused : IfErr result
+      (λ fault. (fault ≡ NoMemory) ⊎ HasLaneFault plan case bit shown fault)
+  -- and as definitions compute it
+  pub halves : IfOk result (λ halves. checked_lane plan case bit shown ≡ Ok (numbers halves))
+  pub fault : IfErr result
+      (λ fault. (fault ≡ NoMemory) ⊎ (checked_lane plan case bit shown ≡ Err fault))

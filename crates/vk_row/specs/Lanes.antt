@@ -3,6 +3,7 @@ use Rattle.std.specs.Prelude.{◌≡◌, ◌<◌, ℕ, Bool, List, [], length, s
 use Rattle.vk_commit.specs.declared.place.Place.{Place}
 use Rattle.vk_plan.specs.Forms.{no_row}
 use Rattle.vk_plan.specs.Plans.{PlanValue}
+use Rattle.vk_plan.specs.declared.wire.WireKind.{WireKind}
 use Rattle.vk_plan.specs.declared.wire.WireKind.TheVariants.{Split}
 use Rattle.vk_wire.specs.Places.{place_of_wire}
 use Rattle.vk_wire.specs.Reads.{Reads, HasFault}
@@ -38,19 +39,14 @@ pub record HasCounts (plan : PlanValue) (case : LaneCase) (shown : List Shown) :
 abbrev pub place_in : LaneCase → ℕ → Place
 place_in case wire = place_of_wire case.auction case.lane case.seats wire
 
--- the wire of the lane gives the half for the bit
-abbrev pub WireReads : PlanValue → LaneCase → Bool → List Shown → ℕ → ℕ → Type 0
-WireReads plan case bit shown wire half =
-    Reads (slice_index_or plan.kinds wire Split) (place_in case wire)
+-- what is said of a shown wire is said of this wire of the lane: that it gives a half for the bit, or
+-- that it has a fault
+abbrev pub OfWire : {X : Type 0} → (WireKind → Place → WireCom → Shown → Bool → X → Type 0)
+    → PlanValue → LaneCase → Bool → List Shown → ℕ → X → Type 0
+OfWire Says plan case bit shown wire x =
+    Says (slice_index_or plan.kinds wire Split) (place_in case wire)
     (slice_index_or case.coms wire no_digests)
-    (slice_index_or shown wire nothing_shown) bit half
-
--- the wire of the lane has the fault for the bit
-abbrev pub WireHasFault : PlanValue → LaneCase → Bool → List Shown → ℕ → WireFault → Type 0
-WireHasFault plan case bit shown wire fault =
-    HasFault (slice_index_or plan.kinds wire Split) (place_in case wire)
-    (slice_index_or case.coms wire no_digests)
-    (slice_index_or shown wire nothing_shown) bit fault
+    (slice_index_or shown wire nothing_shown) bit x
 
 -- the halves meet the row of the lane
 abbrev pub RowHolds : PlanValue → LaneCase → Bool → List ℕ → ℕ → Type 0
@@ -62,7 +58,7 @@ pub record AreHalves (plan : PlanValue) (case : LaneCase) (bit : Bool) (shown : 
     (halves : List ℕ) : Type 0 where
   pub one_each : length halves ≡ length plan.kinds
   pub each : (wire : ℕ) → wire < length plan.kinds
-      → WireReads plan case bit shown wire (slice_index halves wire)
+      → OfWire Reads plan case bit shown wire (slice_index halves wire)
 
 -- what is shown of the lane is accepted for the bit with these halves
 pub record IsAcceptedLane (plan : PlanValue) (case : LaneCase) (bit : Bool) (shown : List Shown)
@@ -79,8 +75,8 @@ IsAccepted plan case bit shown = (halves : List ℕ) × IsAcceptedLane plan case
 pub record IsFirstWire (plan : PlanValue) (case : LaneCase) (bit : Bool) (shown : List Shown)
     (wire : ℕ) (fault : WireFault) : Type 0 where
   pub within : wire < length plan.kinds
-  pub before : (w : ℕ) → w < wire → (half : ℕ) × WireReads plan case bit shown w half
-  pub faulty : WireHasFault plan case bit shown wire fault
+  pub before : (w : ℕ) → w < wire → (half : ℕ) × OfWire Reads plan case bit shown w half
+  pub faulty : OfWire HasFault plan case bit shown wire fault
 
 -- each wire gives its half, and the row is the first that these don't meet
 pub record IsFirstRow (plan : PlanValue) (case : LaneCase) (bit : Bool) (shown : List Shown)

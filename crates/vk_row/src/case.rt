@@ -1,7 +1,4 @@
 // What is public of a lane, and why what is shown of it is refused.
-ghost use Rattle.vk_row.specs.declared.case.LaneFault.TheVariants.{NoMemory as OutOfMemory};
-ghost use Rattle.std.specs.Prelude.{◌≡◌};
-
 use vk_residue::{NoMemory, Residue};
 use vk_seq::Seq;
 use vk_wire::{WireCom, WireFault};
@@ -29,6 +26,9 @@ pub enum LaneFault {
 }
 
 impl From<NoMemory> for LaneFault {
+    ghost use Rattle.std.specs.Prelude.{◌≡◌};
+    ghost use Rattle.vk_row.specs.declared.case.LaneFault.TheVariants.{NoMemory as OutOfMemory};
+
     ghost from_gives = { λ _ fault. fault ≡ OutOfMemory };
 
     fn from(_refused: NoMemory) -> LaneFault {

@@ -1,10 +1,9 @@
 // The check of what is shown of a lane.
-ghost use Rattle.std.specs.Prelude.{◌≡◌, ◌⊎◌, ◌<◌, length, slice_index_or, IfOk, IfErr, Ok, Err};
-ghost use Rattle.vk_row.specs.Lanes.{HasCounts, IsAcceptedLane, HasLaneFault};
+ghost use Rattle.std.specs.Prelude.{◌≡◌, ◌<◌, length, slice_index_or};
+ghost use Rattle.vk_row.specs.Lanes.{HasCounts};
 ghost use Rattle.vk_plan.specs.Forms.{NamesBelow, no_row};
 ghost use Rattle.vk_row.specs.Rows.{has_side};
-ghost use Rattle.vk_row.specs.LaneTests.{first_false_row, checked_lane};
-ghost use Rattle.vk_row.specs.declared.case.LaneFault.TheVariants.{NoMemory as OutOfMemory};
+ghost use Rattle.vk_row.specs.LaneTests.{JudgesLane, first_false_row};
 
 use crate::case::{LaneCase, LaneFault};
 use crate::wires::{ShownLane, read_wires};
@@ -25,15 +24,7 @@ pub fn check_lane(
     shown: &[Shown],
 ) -> Result<Vec<Residue>, LaneFault>
     requires { HasCounts plan.now case.now shown.now }
-    ensures accepted { IfOk result
-        (λ halves. IsAcceptedLane plan.now case.now bit shown.now halves.items) }
-    ensures refused { IfErr result
-        (λ fault. (fault ≡ OutOfMemory) ⊎ HasLaneFault plan.now case.now bit shown.now fault) }
-    ensures halves { IfOk result
-        (λ halves. checked_lane plan.now case.now bit shown.now ≡ Ok halves.items) }
-    ensures fault { IfErr result
-        (λ fault. (fault ≡ OutOfMemory)
-        ⊎ (checked_lane plan.now case.now bit shown.now ≡ Err fault)) }
+    ensures judged { JudgesLane plan.now case.now bit shown.now (λ halves. halves.items) result }
 {
     let table = RowTable::of(alloc, plan)?;
     check_lane_with(alloc, plan, &table, case, bit, shown)
@@ -51,15 +42,7 @@ pub fn check_lane_with(
 ) -> Result<Vec<Residue>, LaneFault>
     requires counts { HasCounts plan.now case.now shown.now }
     requires table { table.now ≡ plan.now.rows }
-    ensures accepted { IfOk result
-        (λ halves. IsAcceptedLane plan.now case.now bit shown.now halves.items) }
-    ensures refused { IfErr result
-        (λ fault. (fault ≡ OutOfMemory) ⊎ HasLaneFault plan.now case.now bit shown.now fault) }
-    ensures halves { IfOk result
-        (λ halves. checked_lane plan.now case.now bit shown.now ≡ Ok halves.items) }
-    ensures fault { IfErr result
-        (λ fault. (fault ≡ OutOfMemory)
-        ⊎ (checked_lane plan.now case.now bit shown.now ≡ Err fault)) }
+    ensures judged { JudgesLane plan.now case.now bit shown.now (λ halves. halves.items) result }
 {
     let halves = read_wires(alloc, plan, &ShownLane { case, bit, shown })?;
     match first_unmet_row(plan, table, case, bit, halves.as_slice()) {

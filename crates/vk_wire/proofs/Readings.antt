@@ -64,22 +64,6 @@ whole_fault i place digests first second NotASet weight =
 no_half : (h : ℕ) → (let r : Result ℕ WireFault = Err Form in r ≡ Ok h) ↔ ⊥
 no_half h = (λ e. absurd (cc), λ e. absurd e)
 
--- each half is computed as it is read
-pub half_is_computed : (kind : WireKind) (place : Place) (digests : WireCom) (shown : Shown)
-    (bit : Bool) (h : ℕ) → HasWeight kind
-    → (read_of kind place digests shown bit ≡ Ok h) ↔ Reads kind place digests shown bit h
-half_is_computed Split place digests (Half opening) bit h weight =
-    entry_half place digests bit opening h
-half_is_computed Split place digests (Whole first second) bit h weight = no_half h
-half_is_computed Split place digests (Spent second opening) bit h weight = no_half h
-half_is_computed (Pair i) place digests (Half opening) bit h weight = no_half h
-half_is_computed (Pair i) place digests (Whole first second) false h weight =
-    whole_half i place digests first second h weight
-half_is_computed (Pair i) place digests (Whole first second) true h weight = no_half h
-half_is_computed (Pair i) place digests (Spent second opening) false h weight = no_half h
-half_is_computed (Pair i) place digests (Spent second opening) true h weight =
-    entry_half place digests second opening h
-
 -- the faults of a split value
 split_fault : (place : Place) (digests : WireCom) (opening : Opening) (bit : Bool) (f : WireFault)
     → (entry_read place digests bit opening ≡ Err f)
@@ -101,15 +85,40 @@ spent_fault i place digests spent opening (Digest second) =
     split_fault place digests opening spent (Digest second)
 spent_fault i place digests spent opening NotASet = split_fault place digests opening spent NotASet
 
--- each fault is computed as it is defined
-pub fault_is_computed : (kind : WireKind) (place : Place) (digests : WireCom) (shown : Shown)
-    (bit : Bool) (f : WireFault) → HasWeight kind
-    → (read_of kind place digests shown bit ≡ Err f) ↔ HasFault kind place digests shown bit f
-fault_is_computed Split place digests (Half opening) bit f weight =
+-- the shown wire reads this: a half, or a fault
+abbrev pub IsReading : WireKind → Place → WireCom → Shown → Bool → Result ℕ WireFault → Type 0
+IsReading kind place digests shown bit (Ok h) = Reads kind place digests shown bit h
+IsReading kind place digests shown bit (Err f) = HasFault kind place digests shown bit f
+
+-- what is computed is what it reads
+pub reading_is_computed : (kind : WireKind) (place : Place) (digests : WireCom) (shown : Shown)
+    (bit : Bool) (reading : Result ℕ WireFault) → HasWeight kind
+    → (read_of kind place digests shown bit ≡ reading)
+    ↔ IsReading kind place digests shown bit reading
+reading_is_computed Split place digests (Half opening) bit (Ok h) weight =
+    entry_half place digests bit opening h
+reading_is_computed Split place digests (Half opening) bit (Err f) weight =
     split_fault place digests opening bit f
-fault_is_computed (Pair i) place digests (Whole first second) false f weight =
+reading_is_computed (Pair i) place digests (Whole first second) false (Ok h) weight =
+    whole_half i place digests first second h weight
+reading_is_computed (Pair i) place digests (Whole first second) false (Err f) weight =
     whole_fault i place digests first second f weight
-fault_is_computed (Pair i) place digests (Spent second opening) true f weight =
+reading_is_computed (Pair i) place digests (Spent second opening) true (Ok h) weight =
+    entry_half place digests second opening h
+reading_is_computed (Pair i) place digests (Spent second opening) true (Err f) weight =
     spent_fault i place digests second opening f
-fault_is_computed kind place digests shown bit Form weight = (λ _. refl, λ _. refl)
-fault_is_computed kind place digests shown bit f weight = (λ e. absurd (cc), λ e. absurd e)
+reading_is_computed kind place digests shown bit (Ok h) weight = no_half h
+reading_is_computed kind place digests shown bit (Err Form) weight = (λ _. refl, λ _. refl)
+reading_is_computed kind place digests shown bit (Err f) weight =
+    (λ e. absurd (cc), λ e. absurd e)
+
+module _ (kind : WireKind) (place : Place) (digests : WireCom) (shown : Shown) (bit : Bool) where
+  -- each half is computed as it is read
+  pub half_is_computed : (h : ℕ) → HasWeight kind
+      → (read_of kind place digests shown bit ≡ Ok h) ↔ Reads kind place digests shown bit h
+  half_is_computed h = reading_is_computed kind place digests shown bit (Ok h)
+
+  -- each fault is computed as it is defined
+  pub fault_is_computed : (f : WireFault) → HasWeight kind
+      → (read_of kind place digests shown bit ≡ Err f) ↔ HasFault kind place digests shown bit f
+  fault_is_computed f = reading_is_computed kind place digests shown bit (Err f)
