@@ -2,6 +2,7 @@
 //! Each error of the system is counted as a fault.
 #![tactic(auto)]
 
+mod again;
 mod ahead;
 mod faults;
 mod file_id;

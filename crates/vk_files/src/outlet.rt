@@ -7,6 +7,7 @@ ghost use Rattle.vk_io.specs.Files.{Modelled, Takes};
 ghost use Rattle.vk_files.specs.Counting.{CountsOnce};
 ghost use Rattle.vk_files.specs.Outlets.{TakesSome};
 
+use crate::again::again;
 use crate::faults::FaultCount;
 use crate::outcome::count_fault;
 use std::io;
@@ -36,17 +37,7 @@ fn take_again<O: Outlet>(outlet: &mut O, piece: &[u8]) -> io::Result<usize>
         (O.taken outlet.new) }
     ensures again { IfErr result (λ error. error_kind error ≢ ErrorKind.Interrupted) }
 {
-    for _turn in 0..u64::MAX {
-        match outlet.take_some(piece) {
-            Ok(count) => return Ok(count),
-            Err(error) => {
-                if error.kind() != ErrorKind::Interrupted {
-                    return Err(error);
-                }
-            }
-        }
-    }
-    Err(io::Error::from(ErrorKind::TimedOut))
+    again!(outlet.take_some(piece))
 }
 
 /// Has the outlet take the whole piece. Refused, it took a first part of it. A call that takes
