@@ -1,10 +1,8 @@
 // What stands on a board before its first lane.
 ghost use Rattle.std.specs.Prelude.{◌≡◌, ◌⊎◌, IfErr, IfOk, IfSome, IsErrOf};
-ghost use Rattle.vk_io.specs.Faults.{MayCause, Rose};
-ghost use Rattle.vk_lines.specs.Lines.{KeepsFile, OnlyReads, rest_of};
+ghost use Rattle.vk_lines.specs.Common.{Gives, KeepsFile, MayCause, OnlyReads, Rose, rest_of};
 ghost use Rattle.vk_board.specs.Values.{IsHead, AreSeals};
 ghost use Rattle.vk_board.specs.Reading.{seats_of, IsAmongFront};
-ghost use Rattle.vk_lines.specs.Gives.{Gives};
 ghost use Rattle.vk_board.specs.Fronts.{IsFront, fault_of, front_of, front_at};
 ghost use Rattle.vk_board.specs.declared.front.FrontErr.TheVariants as refusal;
 

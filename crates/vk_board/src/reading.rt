@@ -1,9 +1,7 @@
 ghost use Rattle.std.specs.Prelude.{length, true, ◌≡◌, ◌≤◌, ◌-◌, ◌⊎◌, IfSome, IfOk, IsErrOf};
 ghost use Rattle.std.specs.List.{All};
 ghost use Rattle.vk_residue.specs.Residue.{IsResidue};
-ghost use Rattle.vk_io.specs.Faults.{MayCause, Rose};
-ghost use Rattle.vk_lines.specs.Forms.{many_at};
-ghost use Rattle.vk_lines.specs.Lines.{Reads, ReadsFreely, ReadsRight, line_by};
+ghost use Rattle.vk_lines.specs.Common.{MayCause, Reads, ReadsFreely, ReadsRight, Rose, line_by, many_at};
 ghost use Rattle.vk_board.specs.Values.{AreBytes, IsCom, IsVersion, IsReserve, IsWinner, IsHead, IsSealAfter, AreSealsOf, AreSeals, IsLaneLines};
 ghost use Rattle.vk_board.specs.Reading.{com_line, posted_line, seats_of, is_new_seat, seat_line, reserve_at, unsold_line, winner_line, head_at, seal_at, seal_lines_at, seals_at, lane_at, seat_at, lane_begun_at, wires_at, HasRead, IsAmongSeals};
 

@@ -3,9 +3,7 @@
 ghost use Rattle.std.specs.Prelude.{◌≡◌, ◌++◌, IfOk, IfSome, OnOk};
 ghost use Rattle.std.specs.List.{flat_map};
 ghost use Rattle.vk_residue.specs.Limits.{IsLaneCount};
-ghost use Rattle.vk_io.specs.Reads.{OnlyReads};
-ghost use Rattle.vk_lines.specs.Gives.{Gives};
-ghost use Rattle.vk_lines.specs.Lines.{Reads};
+ghost use Rattle.vk_lines.specs.Common.{Gives, OnlyReads, Reads};
 ghost use Rattle.vk_board.specs.Fronts.{IsFront, front_text};
 ghost use Rattle.vk_board.specs.Texts.{lane_text, seal_lines_text};
 ghost use Rattle.vk_report.specs.Bits.{leading_bits};

@@ -2,8 +2,7 @@ ghost use Rattle.std.specs.Prelude.{[], ◌≡◌, ◌+◌, ◌≤◌, length, I
 ghost use Rattle.std.specs.List.{All};
 ghost use Rattle.vk_residue.specs.Limits.{IsLaneCount};
 ghost use Rattle.vk_commit.specs.Values.{AreBytes};
-ghost use Rattle.vk_lines.specs.Forms.{EachAfter, ReadsWhole};
-ghost use Rattle.vk_lines.specs.Lines.{Reads, ReadsRight, line_by};
+ghost use Rattle.vk_lines.specs.Common.{EachAfter, Reads, ReadsRight, ReadsWhole, line_by};
 ghost use Rattle.vk_coin.specs.Coins.{IsCoin, IsShareOf, coin_text};
 ghost use Rattle.vk_coin.specs.Shares.{IsAuditor, IsShare, share_text};
 ghost use Rattle.vk_coin.specs.Reading.{coin_at, coin_with, parts_at, share_at, share_with, shares_at, show_line, shown_at};

@@ -2,8 +2,7 @@
 
 ghost use Rattle.std.specs.Prelude.{string_bytes};
 ghost use Rattle.std.specs.List.{flat_map};
-ghost use Rattle.vk_io.specs.Faults.{Causes};
-ghost use Rattle.vk_io.specs.Files.{Modelled, Takes};
+ghost use Rattle.vk_lines.specs.Common.{Causes, Modelled, Takes};
 
 use vk_io::{OutsideErr, Sink};
 

@@ -2,11 +2,7 @@
 
 ghost use Rattle.std.specs.Prelude.{◌≡◌, ℕ, Err, IfOk, IfSome, Ok, Result};
 ghost use Rattle.std.specs.FinMap as map;
-ghost use Rattle.vk_io.specs.Faults.{Causes};
-ghost use Rattle.vk_io.specs.Files.{Files};
-ghost use Rattle.vk_io.specs.Reads.{OnlyReads};
-ghost use Rattle.vk_lines.specs.Gives.{Gives};
-ghost use Rattle.vk_lines.specs.Lines.{IsBefore, GivesReading, Rest, Starts, rest_of};
+ghost use Rattle.vk_lines.specs.Common.{Causes, Files, Gives, GivesReading, IsBefore, OnlyReads, Rest, Starts, rest_of};
 ghost use Rattle.vk_effect.specs.Effects.{SaidValue};
 ghost use Rattle.vk_effect.specs.Reading.{begun_in, said_of_unread, said_or_stopped, value_in};
 

@@ -6,3 +6,4 @@ pub mod Joining
 pub mod Kept
 pub mod Codes
 pub mod Memory
+pub mod Common

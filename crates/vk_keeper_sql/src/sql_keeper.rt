@@ -4,8 +4,7 @@ ghost use Rattle.std.specs.Prelude.{◌≡◌, Err, IfErr, IfOk, IfSome, IsErrOf
 ghost use Rattle.sqlite.specs.Held.{state};
 ghost use Rattle.sqlite.specs.State.{HasCleanDisk};
 ghost use Rattle.vk_io.specs.Faults.{Causes};
-ghost use Rattle.vk_keeper.specs.Auctions.{IsAuction};
-ghost use Rattle.vk_keeper.specs.Turns.{AfterGet, AfterPut};
+ghost use Rattle.vk_keeper.specs.Common.{AfterGet, AfterPut, IsAuction};
 ghost use Rattle.vk_keeper_sql.specs.Opening.{Prepares};
 ghost use Rattle.vk_keeper_sql.specs.Reading.{Finds, FindsNothing};
 ghost use Rattle.vk_keeper_sql.specs.Transactions.{ChangesNothing, CommitsNothing, CommitsAtOnce};

@@ -3,3 +3,4 @@ pub mod Forms
 pub mod Gives
 pub mod Lines
 pub mod Tokens
+pub mod Common

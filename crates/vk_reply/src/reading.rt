@@ -1,6 +1,6 @@
-ghost use Rattle.std.specs.Prelude.{length, ◌≡◌, ◌<◌, ◌≤◌, slice_index_or, IfSome, IfOk};
-ghost use Rattle.vk_lines.specs.Forms.{ReadsWhole};
-ghost use Rattle.vk_lines.specs.Lines.{Reads, ReadsRight, line_by};
+ghost use Rattle.std.specs.Prelude.{length, ◌≡◌, ◌<◌, ◌≤◌, slice_index_or, IfSome};
+ghost use Rattle.vk_residue.specs.Limits.{IsLaneCount};
+ghost use Rattle.vk_lines.specs.Common.{ReadsRight, ReadsWhole, line_by};
 ghost use Rattle.vk_plan.specs.declared.wire.WireKind.TheVariants.{Split};
 ghost use Rattle.vk_reply.specs.Values.{AreShown, IsChallenge, IsShown};
 ghost use Rattle.vk_reply.specs.Texts.{challenge_text};
@@ -30,30 +30,27 @@ pub fn read_challenge<S: Shelf>(
     ensures reads { ReadsWhole challenge_at IsChallenge challenge_text challenge_table
         S.held S.Shelf.faults lines.old lines.new shelf.old shelf.new result }
 {
-    let challenge = challenge_read(alloc, shelf, lines);
+    let challenge = Challenge::read(alloc, shelf, lines);
     challenge
 }
 
-/// Reads the lines of a challenge in turn.
-#[tactic(auto, unfolding(crate::specs::Reading::challenge_at))]
-fn challenge_read<S: Shelf>(
-    alloc: Global,
-    shelf: &mut S,
-    lines: &mut Lines,
-) -> Result<Challenge, ReadErr>
-    ensures reads { ReadsRight challenge_at IsChallenge S.held S.Shelf.faults
-        lines.old lines.new shelf.old shelf.new result }
-{
-    lines.read_fixed(shelf, b"vickrey-challenge 1")?;
-    let bits = read_bits(alloc, shelf, lines)?;
-    lines.read_end(shelf)?;
-    Ok(challenge_from(bits))
+impl Challenge {
+    /// Reads the lines of a challenge in turn.
+    #[tactic(auto, unfolding(crate::specs::Reading::challenge_at))]
+    fn read<S: Shelf>(alloc: Global, shelf: &mut S, lines: &mut Lines) -> Result<Self, ReadErr>
+        ensures reads { ReadsRight challenge_at IsChallenge S.held S.Shelf.faults
+            lines.old lines.new shelf.old shelf.new result }
+    {
+        lines.read_fixed(shelf, b"vickrey-challenge 1")?;
+        let bits = read_bits(alloc, shelf, lines)?;
+        lines.read_end(shelf)?;
+        Ok(challenge_from(bits))
+    }
 }
 
 /// A challenge of what was read.
 fn challenge_from(bits: Seq<bool>) -> Challenge
-    requires some_bit { 1 ≤ length bits }
-    requires few_bits { length bits ≤ 64 }
+    requires count { IsLaneCount (length bits) }
     ensures value { result ≡ record { bits = bits } }
     ensures right { IsChallenge result }
 {
@@ -67,10 +64,8 @@ fn read_bits<S: Shelf>(
     shelf: &mut S,
     lines: &mut Lines,
 ) -> Result<Seq<bool>, ReadErr>
-    ensures reads { Reads (line_by bits_line) S.held S.Shelf.faults
-        lines.old lines.new shelf.old shelf.new result }
-    ensures some_bit { IfOk result (λ bits. 1 ≤ length bits) }
-    ensures few_bits { IfOk result (λ bits. length bits ≤ 64) }
+    ensures reads { ReadsRight (line_by bits_line) (λ bits. IsLaneCount (length bits))
+        S.held S.Shelf.faults lines.old lines.new shelf.old shelf.new result }
 {
     lines.read_text(shelf)?;
     let value = bits_line(alloc, lines.text())?;

@@ -1,7 +1,5 @@
 ghost use Rattle.std.specs.Prelude.{◌≡◌, ◌∷◌, ◌++◌, [], codes, decimal, IfOk, OnOk};
-ghost use Rattle.std.specs.List.{flat_map};
-ghost use Rattle.vk_lines.specs.Forms.{line, spaced};
-ghost use Rattle.vk_lines.specs.Tokens.{hex_text};
+ghost use Rattle.vk_lines.specs.Common.{hex_text, line, spaced};
 ghost use Rattle.vk_reply.specs.Texts.{bit_character, bits_text, shown_text, challenge_text, reply_head_text, reply_lane_text};
 
 use crate::challenge::Challenge;
@@ -53,19 +51,10 @@ pub fn reply_lane_text(alloc: Global, lane: u32, shown: &[Shown]) -> Result<Vec<
 {
     let mut text = Vec::new(alloc);
     push_number_line(&mut text, b"lane", u64::from(lane))?;
-    push_wires(&mut text, shown)?;
-    Ok(text)
-}
-
-/// Appends the line of each wire.
-fn push_wires(out: &mut Vec<u8>, shown: &[Shown]) -> Result<(), NoMemory>
-    ensures { OnOk result (out.new.items
-        ≡ out.old.items ++ flat_map (λ one. line (shown_text one)) shown.now) }
-{
     for one in shown {
-        push_shown(out, one)?;
+        push_shown(&mut text, one)?;
     }
-    Ok(())
+    Ok(text)
 }
 
 /// Appends the line of one wire.

@@ -1,7 +1,6 @@
 ghost use Rattle.std.specs.Prelude.{◌≡◌, IfSome, IfOk, Ok};
-ghost use Rattle.vk_lines.specs.Lines.{OnlyReads, Reads};
+ghost use Rattle.vk_lines.specs.Common.{Gives, OnlyReads, Reads};
 ghost use Rattle.vk_board.specs.Fronts.{IsFront};
-ghost use Rattle.vk_lines.specs.Gives.{Gives};
 ghost use Rattle.vk_report.specs.Reports.{IsReport, fault_of, report_with, lanes_passed, report_at, report_on};
 
 use crate::report::{Report, ReportErr};

@@ -1,7 +1,6 @@
 ghost use Rattle.std.specs.Prelude.{◌≡◌, ◌++◌, [], ◌∷◌, codes, decimal, IfOk, OnOk, string_bytes};
 ghost use Rattle.std.specs.List.{flat_map};
-ghost use Rattle.vk_lines.specs.Forms.{line, spaced};
-ghost use Rattle.vk_lines.specs.Tokens.{hex_text};
+ghost use Rattle.vk_lines.specs.Common.{hex_text, line, spaced};
 ghost use Rattle.vk_board.specs.Texts.{reserve_text, winner_text};
 ghost use Rattle.vk_report.specs.Reports.{IsReport, commitment_count, head_lines, seat_text, count_lines, report_text};
 

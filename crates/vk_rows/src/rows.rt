@@ -1,8 +1,7 @@
 //! Rows as an auction, where they are one.
 
 ghost use Rattle.std.specs.Prelude.{◌≡◌, Option, IfOk, IfSome};
-ghost use Rattle.vk_keeper.specs.Auctions.{IsAuction};
-ghost use Rattle.vk_keeper.specs.Ledgers.{IsKeptUnder};
+ghost use Rattle.vk_keeper.specs.Common.{IsAuction, IsKeptUnder};
 ghost use Rattle.vk_keeper.specs.declared.auction.Auction.{Auction as AnyAuction};
 ghost use Rattle.vk_rows.specs.Columns.{ShowFound, ShowsWhole};
 ghost use Rattle.vk_rows.specs.Refusals.{MissesNone};

@@ -2,8 +2,7 @@
 
 ghost use Rattle.std.specs.Prelude.{◌≡◌, ◌≤◌, List, [], map, IfOk, IsErrOf, OnOk};
 ghost use Rattle.vk_seal.specs.Values.{IsSeal, IsSecret};
-ghost use Rattle.vk_keeper.specs.Auctions.{IsAuction};
-ghost use Rattle.vk_keeper.specs.Joining.{with_last};
+ghost use Rattle.vk_keeper.specs.Common.{IsAuction, with_last};
 ghost use Rattle.vk_keeper.specs.declared.auction.Phase.TheVariants.{Taking};
 ghost use Rattle.vk_keeper.specs.declared.auction.SealRow.{SealRow as AnySeal};
 ghost use Rattle.vk_rows.specs.Columns.{IsStored, ShowSeals, ShowsSeal, seal_texts};

@@ -8,3 +8,4 @@ pub mod Coins
 pub mod Commands
 pub mod Scripts
 pub mod Hints
+pub mod Common

@@ -13,8 +13,7 @@ loop-index-init g c = record {
       (λ files. rest_of c.args.lines.now files) c.new-shares.ensures (omega arith);
   count = ap length c.new-shares.ensures;
   right = rw c.new-shares.ensures tt;
-  held = refl;
-  kept = refl;
+  shelf = record { held = refl; causes = refl };
   file = record { name = refl; size = refl };
 }
 
@@ -28,8 +27,8 @@ returns-in_err-share-clause-reads g c =
           (rest_of c.args.lines.now files))
           l.shares c.in_err-share.field-0.0 _ c.len.result (c.args.auditors - l.index)
           (λ files. rest_of l.lines files) (λ files. rest_of c.read_shown.new.lines files)
-          l.invariant.held (sym c.len.ensures) (omega arith) (search rules) l.invariant.modelled
-          c.in_err-share.ensures.reads.modelled;
+          l.invariant.shelf.held (sym c.len.ensures) (omega arith) (search rules)
+          l.invariant.modelled c.in_err-share.ensures.reads.modelled;
       file = search rules;
       shelf = search rules;
     }
@@ -47,7 +46,7 @@ loop-index-preserved g c =
           l.shares _ c.in_ok-share.share c.len.result (c.args.auditors - l.index)
           (c.args.auditors - (l.index + 1)) (λ files. rest_of l.lines files)
           (λ files. rest_of c.read_shown.new.lines files)
-          l.invariant.held (sym c.len.ensures) (omega arith) c.in_ok-push.ensures.pushed
+          l.invariant.shelf.held (sym c.len.ensures) (omega arith) c.in_ok-push.ensures.pushed
           l.invariant.modelled c.in_ok-share.ensures.reads.modelled;
       count = one_longer l.shares _ c.in_ok-share.share l.index l.invariant.count
           c.in_ok-push.ensures.pushed;
@@ -55,8 +54,10 @@ loop-index-preserved g c =
           (each_push (λ before. IsShareOf c.args.auction.now c.args.bits (length before + 1)) []
           l.shares c.in_ok-share.share l.invariant.right
           (subst P c.len.ensures c.in_ok-share.ensures.reads.right));
-      held = c.in_ok-share.ensures.reads.shelf.held ∙ l.invariant.held;
-      kept = c.in_ok-share.ensures.reads.shelf.causes ∙ l.invariant.kept;
+      shelf = record {
+        held = c.in_ok-share.ensures.reads.shelf.held ∙ l.invariant.shelf.held;
+        causes = c.in_ok-share.ensures.reads.shelf.causes ∙ l.invariant.shelf.causes;
+      };
       file = search rules;
     }
 
