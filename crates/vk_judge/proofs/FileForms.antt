@@ -9,7 +9,7 @@ use Rattle.vk_judge.specs.declared.opened.Opened.{Opened}
 use Rattle.vk_judge.specs.declared.opened.Refusal.{Refusal}
 use Rattle.vk_judge.specs.declared.opened.Refusal.TheVariants as refusal
 use Rattle.vk_judge.specs.declared.stage.Finding.{Finding}
-use Rattle.vk_judge.specs.declared.stage.Finding.TheVariants.{Refused, Same, Ready}
+use Rattle.vk_judge.specs.declared.stage.Finding.TheVariants.{Same, Ready}
 use Rattle.vk_judge.specs.Acceptance.{AcceptsBehind}
 use Rattle.vk_judge.specs.Behind.{behind_judged}
 use Rattle.vk_judge.specs.Begun.{from_start}
@@ -20,6 +20,7 @@ use Rattle.vk_judge.specs.FileForms.{Accepts, AcceptedGive, AreOfOneFile, Fails,
 use Rattle.vk_judge.proofs.Accepted.{accepted_behind}
 use Rattle.vk_judge.proofs.Reasons.{fault_holds}
 use Rattle.vk_judge.proofs.Exact.{fault_given}
+use Rattle.vk_judge.proofs.Found.{told_accepted}
 use Rattle.vk_judge.proofs.Steps.{value_same}
 use Rattle.vk_judge.proofs.TwoLaw.{finds_by_judging}
 use Rattle.vk_judge.proofs.TwoValues.{accepted_behind_give, only_accepted_behind}
@@ -245,8 +246,7 @@ accepted_give form is file challenge reply other second one two =
 
 found_accepted : (R : Type 0) (finding : Finding Fault)
     → BothAreAccepted (as_found {R = R} finding) → BothAreAccepted finding
-found_accepted R (Refused of_second fault) accepted = absurd accepted
-found_accepted R finding accepted = accepted
+found_accepted R = told_accepted refusal.Fault
 
 module _ {F H R : Type 0} (form : Form F H R) (is : IsForm form) (file challenge reply other second : List ℕ) where
   abbrev Both : Result (Opened H × Rest) (Refusal R) → Type 0

@@ -14,6 +14,7 @@ pub mod Exact
 pub mod Joined
 pub mod Attempts
 pub mod Bits
+pub mod Found
 pub mod TwoFound
 pub mod TwoLaw
 pub mod TwoValues

@@ -1,7 +1,8 @@
 -- What is judged behind a front, for any statement: the challenge, the reply's head, the lanes and
 -- the ends, up to the first test that fails.
-use Rattle.std.specs.Prelude.{◌≡◌, ℕ, ◌+◌, ◌-◌, ◌==◌, ◌&&◌, Bool, if◌then◌else◌, List, [], ◌∷◌, ◌++◌, length, map, slice_index_or, Result, Ok, Err}
+use Rattle.std.specs.Prelude.{◌≡◌, ℕ, ◌+◌, ◌-◌, ◌==◌, ◌&&◌, Bool, if◌then◌else◌, List, [], ◌∷◌, ◌++◌, length, map, slice_index_or, Option, IfSome, Result, Ok, Err}
 use Rattle.vk_residue.specs.Steps.{◌>>=◌}
+use Rattle.vk_io.specs.Files.{Files}
 use Rattle.vk_lines.specs.Lines.{Rest, end_at}
 use Rattle.vk_plan.specs.Plans.{PlanValue}
 use Rattle.vk_wire.specs.declared.wire.WireCom.{WireCom}
@@ -30,6 +31,12 @@ Judges value (Ok x) expected = expected ≡ Ok (value x)
 Judges value (Err (Refused refusal)) expected = expected ≡ Err refusal
 Judges value (Err Failed) expected = Unit {0}
 Judges value (Err NoMemory) expected = Unit {0}
+
+-- so it is of modelled files, and what is read on from is what the definition gives besides
+abbrev pub JudgesOn : {T X V : Type 0} → Option Files → (Files → X) → Result T (Halt V)
+    → (Files → Result (T × X) V) → Type 0
+JudgesOn held rest result expected =
+    IfSome held (λ files. Judges (λ x. (x, rest files)) result (expected files))
 
 -- a fault of the form of a file is the fault
 abbrev pub in_part : {X : Type 0} → Part → Result X ℕ → Result X Fault

@@ -3,6 +3,7 @@ pub mod Behind
 pub mod Begun
 pub mod Parts
 pub mod Two
+pub mod Found
 pub mod Answers
 pub mod TwoLaw
 pub mod Acceptance
@@ -12,3 +13,4 @@ pub mod Wanting
 pub mod Opened
 pub mod FileForms
 pub mod HeldFiles
+pub mod Common

@@ -1,23 +1,27 @@
 -- Files of any form, from their first lines on: what stands before the first lane, and then what
 -- stands behind it.
-use Rattle.std.specs.Prelude.{◌≡◌, ◌⊎◌, ℕ, ◌+◌, ◌≤◌, false, List, Option, Some, None, IsSome, IfOk, IfSome, IsErrOf, option_map, Result, Ok, Err}
+use Rattle.std.specs.Prelude.{◌≡◌, ◌⊎◌, ℕ, ◌+◌, ◌≤◌, false, List, Option, Some, None, IsSome, IfOk, IfSome, IsErrOf, IsSomeAnd, option_map, Result, Ok, Err}
 use Rattle.vk_io.specs.Files.{Files}
 use Rattle.vk_io.specs.declared.errors.OutsideErr.{OutsideErr}
 use Rattle.vk_io.specs.declared.errors.OutsideErr.TheVariants as outside
+use Rattle.vk_lines.specs.Gives.{Gives}
 use Rattle.vk_lines.specs.Lines.{OnlyReads, Rest}
 use Rattle.vk_judge.specs.declared.answers.Fault.{Fault}
+use Rattle.vk_judge.specs.declared.answers.VErr.{VErr}
+use Rattle.vk_judge.specs.declared.answers.VErr.TheVariants as verr
 use Rattle.vk_judge.specs.declared.opened.Opened.{Opened}
 use Rattle.vk_judge.specs.declared.opened.Refusal.{Refusal}
 use Rattle.vk_judge.specs.declared.opened.Refusal.TheVariants as refusal
 use Rattle.vk_judge.specs.declared.stage.Base.{Base}
 use Rattle.vk_judge.specs.declared.stage.Course.{Course}
 use Rattle.vk_judge.specs.declared.stage.Finding.{Finding}
-use Rattle.vk_judge.specs.declared.stage.Finding.TheVariants.{Refused, Same, Ready}
+use Rattle.vk_judge.specs.declared.stage.Finding.TheVariants.{Refused}
 use Rattle.vk_judge.specs.declared.stage.Stage.{Stage}
 use Rattle.vk_judge.specs.declared.stage.Stage.TheVariants.{Before, Running}
 use Rattle.vk_judge.specs.declared.stage.TwoLane.{TwoLane}
 use Rattle.vk_judge.specs.Behind.{behind_judged}
-use Rattle.vk_judge.specs.Begun.{from_start}
+use Rattle.vk_judge.specs.Found.{told_by}
+use Rattle.vk_judge.specs.Begun.{from_start, unread_file}
 use Rattle.vk_judge.specs.Two.{Ahead, BothAreAccepted, IsBase, IsTwoLane, ahead_behind, ahead_on, base_behind, base_in, over, rests_of, with_lane}
 use Rattle.vk_judge.specs.Wanting.{MemoryWasWanting}
 
@@ -54,9 +58,7 @@ judged_in front file challenge reply =
 
 -- what is found behind the front, as it is told of the file
 abbrev pub as_found : {R : Type 0} → Finding Fault → Finding (Refusal R)
-as_found (Refused second fault) = Refused second (refusal.Fault fault)
-as_found Same = Same
-as_found Ready = Ready
+as_found = told_by refusal.Fault
 
 abbrev pub as_ahead : {R : Type 0} → Ahead Fault → Ahead (Refusal R)
 as_ahead ahead = record { lanes = ahead.lanes; finding = as_found ahead.finding }
@@ -192,6 +194,21 @@ pub record IsLaneStep {H R : Type 0} (old : Checked H R) (lane : Option TwoLane)
   pub none : lane ≡ None → IsCheckedOver new × (checked_given new ≡ checked_given old)
   pub base : checked_base new ≡ checked_base old
 
+-- what a checker of named files answers where it begins, with what is held of the files and the count
+-- of faults
+pub record GivesBegun {H R S : Type 0} (held : S → Option Files) (faults : S → ℕ)
+    (coming : Files → Result (Coming H R) VErr) (result : Result (Checked H R) VErr)
+    (old new : S) : Type 0 where
+  -- of modelled files, what is to come is as defined, or which of them is missing or too long
+  pub modelled : IfSome (held old)
+      (λ files. Gives unread_file (λ checker. coming_of checker files) result (coming files))
+  -- no lane was given yet
+  pub none_given : IfOk result (λ checker. checked_given checker ≡ 0)
+  -- it gives up only for want of memory
+  pub wanting : IsErrOf result verr.NoMemory → MemoryWasWanting
+  -- every fault is answered, and nothing else is
+  pub shelf : OnlyReads held faults verr.Failed result old new
+
 -- what a checker answers that is asked for its next lane, with what is held of the files and the
 -- count of faults
 pub record GivesNext {H R S : Type 0} (held : S → Option Files) (faults : S → ℕ)
@@ -206,3 +223,12 @@ pub record GivesNext {H R S : Type 0} (held : S → Option Files) (faults : S �
   pub wanting : IsErrOf result outside.NoMemory → MemoryWasWanting
   -- every fault is answered, and nothing else is
   pub shelf : OnlyReads held faults outside.Failed result old new
+
+-- what a checker tells that gives no lane any more: what was found
+pub record GivesFinding {H R V : Type 0} (found : Option (Finding V)) (checked : Checked H R)
+    (finding : Finding V) : Type 0 where
+  pub value : found ≡ Some finding
+  -- both replies are accepted only where every lane was given
+  pub all : BothAreAccepted finding
+      → IsSomeAnd (checked_base checked)
+      (λ known. checked_given checked ≡ known.base.statement.lanes)

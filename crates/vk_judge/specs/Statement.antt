@@ -15,6 +15,10 @@ pub record StatementValue : Type 0 where
   pub seals : List SealLines
   pub plan : PlanValue
 
+abbrev pub stated : List ℕ → ℕ → List SealLines → PlanValue → StatementValue
+stated auction lanes seals plan =
+    record { auction = auction; lanes = lanes; seals = seals; plan = plan }
+
 -- an id of 16 bytes, 1 to 64 lanes, seals of so many lanes whose seats are all different, and a
 -- plan with an input for each of them
 pub record IsStatement (s : StatementValue) : Type 0 where

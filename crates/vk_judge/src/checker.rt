@@ -1,18 +1,18 @@
 // Files of any form: what is judged of one reply, and of two side by side.
-ghost use Rattle.std.specs.Prelude.{◌≡◌, Ok, Some, IfOk, IfSome, IsErrOf, IsSomeAnd};
+ghost use Rattle.std.specs.Prelude.{◌≡◌, Ok, IfOk, IfSome, IsErrOf};
 ghost use Rattle.vk_lines.specs.Lines.{OnlyReads};
 ghost use Rattle.vk_judge.specs.Begun.{of_begun};
 ghost use Rattle.vk_judge.specs.Behind.{and_rest};
 ghost use Rattle.vk_judge.specs.Statement.{IsStatement};
-ghost use Rattle.vk_judge.specs.Two.{BothAreAccepted, of_two};
+ghost use Rattle.vk_judge.specs.Two.{of_two};
 ghost use Rattle.vk_judge.specs.Wanting.{MemoryWasWanting};
-ghost use Rattle.vk_judge.specs.Opened.{GivesNext, HasOpened, IsCheckedOver, checked_base, checked_finding, checked_given, coming_of, coming_past, in_file, judged_past, opened_in};
+ghost use Rattle.vk_judge.specs.Opened.{GivesFinding, GivesNext, HasOpened, IsCheckedOver, checked_base, checked_finding, checked_given, coming_of, coming_past, in_file, judged_past, opened_in};
 
 use crate::answers::Fault;
 use crate::halt::refusal_as_value;
 use crate::judging::judge_behind;
 use crate::opened::{Opened, Refusal};
-use crate::stage::{Attempt, Finding, Stage, TwoAttempts, TwoLane};
+use crate::stage::{Attempt, Finding, NextLane, Stage, TwoAttempts};
 use crate::statement::Statement;
 use crate::two::{next_on_course, stage_on};
 use crate::two_lane::begin_lanes;
@@ -119,11 +119,7 @@ impl<H: Drop, R: Copy> Checker<H, R> {
     /// Gives the next lane, where both replies are accepted so far, and none where every lane was
     /// given or one of the replies has its fault in the lane or before it. What they come to is
     /// known then.
-    pub fn next_lane<S: Shelf>(
-        self,
-        alloc: Global,
-        shelf: &mut S,
-    ) -> Result<(Self, Option<TwoLane>), OutsideErr>
+    pub fn next_lane<S: Shelf>(self, alloc: Global, shelf: &mut S) -> NextLane<Self>
         ensures next { GivesNext S.held S.Shelf.faults self result shelf.old shelf.new }
     {
         let Checker { stage } = self;
@@ -143,10 +139,7 @@ impl<H: Drop, R: Copy> Checker<H, R> {
     /// What both replies come to. Both are accepted only where every lane was given.
     pub fn finding(&self) -> Finding<Refusal<R>>
         requires { IsCheckedOver self.now }
-        ensures value { checked_finding self.now ≡ Some result }
-        ensures all { BothAreAccepted result
-            → IsSomeAnd (checked_base self.now)
-            (λ known. checked_given self.now ≡ known.base.statement.lanes) }
+        ensures found { GivesFinding (checked_finding self.now) self.now result }
     {
         match &self.stage {
             Stage::Before(finding) => *finding,

@@ -1,7 +1,6 @@
 // Why judging stopped.
 ghost use Rattle.std.specs.Prelude.{◌≡◌, ℕ, Result, Ok, IfOk};
-ghost use Rattle.vk_io.specs.Faults.{Causes};
-ghost use Rattle.vk_lines.specs.Lines.{GivesReading, Rest};
+ghost use Rattle.vk_lines.specs.Common.{Causes, GivesReading, Rest};
 ghost use Rattle.vk_judge.specs.Behind.{Judges, and_rest, in_part};
 ghost use Rattle.vk_judge.specs.Answers.{known_answer, read_answer};
 ghost use Rattle.vk_judge.specs.declared.halt.Halt.TheVariants.{NoMemory as OutOfMemory};

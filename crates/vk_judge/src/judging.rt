@@ -2,7 +2,7 @@
 ghost use Rattle.std.specs.Prelude.{◌≡◌, length, OnOk, IfSome, IfOk, IfErr};
 ghost use Rattle.vk_lines.specs.Lines.{OnlyReads, rest_of};
 ghost use Rattle.vk_judge.specs.declared.answers.Fault.{Fault};
-ghost use Rattle.vk_judge.specs.Behind.{Judges, counted, ends_judged};
+ghost use Rattle.vk_judge.specs.Behind.{Judges, JudgesOn, counted, ends_judged};
 ghost use Rattle.vk_judge.specs.Parts.{AreLeft, attempt_at, behind_in_parts, rest_left};
 ghost use Rattle.vk_judge.specs.Begun.{of_begun};
 
@@ -39,9 +39,8 @@ pub fn read_attempt<S: Shelf>(
     challenge: &mut Lines,
     reply: &mut Lines,
 ) -> Result<Seq<bool>, Halt<Fault>>
-    ensures modelled { IfSome (S.held shelf.old) (λ files.
-        Judges (λ bits. (bits, rest_of reply.new files)) result
-        (attempt_at lanes (rest_of challenge.old files) (rest_of reply.old files))) }
+    ensures modelled { JudgesOn (S.held shelf.old) (rest_of reply.new) result
+        (λ files. attempt_at lanes (rest_of challenge.old files) (rest_of reply.old files)) }
     ensures bits { IfOk result (λ bits. length bits ≡ lanes) }
     ensures shelf { OnlyReads S.held S.Shelf.faults Halt.Failed result shelf.old shelf.new }
 {

@@ -4,7 +4,7 @@ ghost use Rattle.vk_lines.specs.Lines.{OnlyReads, rest_of};
 ghost use Rattle.vk_row.specs.Lanes.{HasCounts, IsAccepted};
 ghost use Rattle.vk_row.specs.LaneTests.{checked_lane};
 ghost use Rattle.vk_judge.specs.Statement.{IsStatement};
-ghost use Rattle.vk_judge.specs.Behind.{Judges, case_of, input_coms, lane_fault, lane_judged};
+ghost use Rattle.vk_judge.specs.Behind.{Judges, JudgesOn, case_of, input_coms, lane_fault, lane_judged};
 ghost use Rattle.vk_judge.specs.Parts.{case_at, reply_judged, IsLaneCase, Fits};
 
 use crate::answers::{Fault, Part};
@@ -73,9 +73,8 @@ pub fn read_case<S: Shelf>(
 ) -> Result<LaneCase, Halt<Fault>>
     requires first { 1 ≤ lane }
     requires last { lane ≤ statement.now.lanes }
-    ensures modelled { IfSome (S.held shelf.old) (λ files.
-        Judges (λ case. (case, rest_of file.new files)) result
-        (case_at statement.now lane (rest_of file.old files))) }
+    ensures modelled { JudgesOn (S.held shelf.old) (rest_of file.new) result
+        (λ files. case_at statement.now lane (rest_of file.old files)) }
     ensures right { IfOk result (IsLaneCase statement.now lane) }
     ensures fits { IfOk result (Fits statement.now.plan) }
     ensures shelf { OnlyReads S.held S.Shelf.faults Halt.Failed result shelf.old shelf.new }
@@ -129,9 +128,8 @@ pub fn read_checked<S: Shelf>(
     reply: &mut Lines,
 ) -> Result<Seq<Shown>, Halt<Fault>>
     requires { Fits statement.now.plan case.now }
-    ensures modelled { IfSome (S.held shelf.old) (λ files.
-        Judges (λ shown. (shown, rest_of reply.new files)) result
-        (reply_judged statement.now.plan case.now lane bit (rest_of reply.old files))) }
+    ensures modelled { JudgesOn (S.held shelf.old) (rest_of reply.new) result
+        (λ files. reply_judged statement.now.plan case.now lane bit (rest_of reply.old files)) }
     ensures accepted { IfOk result (IsAccepted statement.now.plan case.now bit) }
     ensures shelf { OnlyReads S.held S.Shelf.faults Halt.Failed result shelf.old shelf.new }
 {

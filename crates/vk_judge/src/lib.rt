@@ -24,7 +24,9 @@ pub use judging::judge_behind;
 pub use laws::what_is_judged_behind_a_front_is_exact;
 pub use named::{OneReply, TwoReplies};
 pub use opened::{Opened, Refusal};
-pub use stage::{Attempt, Base, FileAndReply, Finding, Stage, TwoAttempts, TwoLane, TwoReaders};
+pub use stage::{
+    Attempt, Base, FileAndReply, Finding, NextLane, Stage, TwoAttempts, TwoLane, TwoReaders,
+};
 pub use statement::Statement;
 pub use two_laws::{
     a_finding_is_by_both_replies, a_finding_is_by_judging_both,

@@ -1,10 +1,7 @@
 // Files by their names, each from its first line on.
 ghost use Rattle.std.specs.Prelude.{◌≡◌, ℕ, List, IfSome, IsErrOf};
 ghost use Rattle.std.specs.FinMap as map;
-ghost use Rattle.vk_io.specs.Faults.{Causes};
-ghost use Rattle.vk_io.specs.Files.{Files};
-ghost use Rattle.vk_lines.specs.Lines.{OnlyReads, Starts, rest_of};
-ghost use Rattle.vk_lines.specs.Gives.{Gives};
+ghost use Rattle.vk_lines.specs.Common.{Causes, Files, Gives, OnlyReads, Starts, rest_of};
 ghost use Rattle.vk_judge.specs.Begun.{begun_file, of_attempt, of_begun, three_rests, unread_file};
 ghost use Rattle.vk_judge.specs.Wanting.{MemoryWasWanting};
 ghost use Rattle.vk_judge.specs.Two.{of_two};

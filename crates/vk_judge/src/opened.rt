@@ -17,3 +17,14 @@ pub enum Refusal<R> {
     /// There is a fault, of the front's lines or behind it.
     Fault(Fault),
 }
+
+impl<R> From<Fault> for Refusal<R> {
+    ghost use Rattle.std.specs.Prelude.{◌≡◌};
+    ghost use Rattle.vk_judge.specs.declared.opened.Refusal.TheVariants.{Fault as ForFault};
+
+    ghost from_gives = { λ fault refusal. refusal ≡ ForFault fault };
+
+    fn from(fault: Fault) -> Refusal<R> {
+        Refusal::Fault(fault)
+    }
+}

@@ -1,6 +1,10 @@
 // How far two replies to a file were read.
+ghost use Rattle.std.specs.Prelude.{◌≡◌};
+ghost use Rattle.vk_judge.specs.Found.{told_by};
+
 use crate::opened::Refusal;
 use crate::statement::Statement;
+use vk_io::OutsideErr;
 use vk_lines::Lines;
 use vk_row::LaneCase;
 use vk_seq::Seq;
@@ -16,6 +20,9 @@ pub struct TwoLane {
     pub second: Seq<Shown>,
 }
 
+/// What a step lane by lane answers: from where to go on, and the next lane, if one is given.
+pub type NextLane<C> = Result<(C, Option<TwoLane>), OutsideErr>;
+
 /// What two replies come to.
 #[derive(Clone, Copy, Debug, PartialEq, Eq)]
 pub enum Finding<V> {
@@ -26,6 +33,24 @@ pub enum Finding<V> {
     Same,
     /// Both replies are accepted, and the challenges differ in a bit.
     Ready,
+}
+
+impl<V> Finding<V> {
+    /// The same, with its verdict told in other words.
+    pub fn told<W: From<V>>(self) -> Finding<W>
+        ensures { (tell : V → W)
+            → ((verdict : V) (words : W) → W.from_gives verdict words → words ≡ tell verdict)
+            → result ≡ told_by tell self }
+    {
+        match self {
+            Finding::Refused { second, verdict } => {
+                let verdict = W::from(verdict);
+                Finding::Refused { second, verdict }
+            }
+            Finding::Same => Finding::Same,
+            Finding::Ready => Finding::Ready,
+        }
+    }
 }
 
 /// A file and a reply, each from where it is to be read on.

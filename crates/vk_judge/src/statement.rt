@@ -1,6 +1,6 @@
 // What is to be shown lane by lane.
 ghost use Rattle.std.specs.Prelude.{◌≡◌, IfOk};
-ghost use Rattle.vk_judge.specs.Statement.{IsStatement, StatementValue};
+ghost use Rattle.vk_judge.specs.Statement.{IsStatement, StatementValue, stated};
 
 use std::alloc::Global;
 use std::marker::Model;
@@ -22,19 +22,13 @@ pub struct Statement {
 
 impl Model for Statement {
     ghost use Rattle.std.specs.Prelude.{◌≡◌};
-    ghost use Rattle.vk_judge.specs.Statement.{StatementValue, IsStatement};
+    ghost use Rattle.vk_judge.specs.Statement.{StatementValue, IsStatement, stated};
 
     ghost Value = { StatementValue };
 
-    ghost view = { λ s. record {
-      auction = s.auction;
-      lanes = s.lanes;
-      seals = s.seals;
-      plan = s.plan;
-    } };
+    ghost view = { λ s. stated s.auction s.lanes s.seals s.plan };
 
-    ghost invariant = { λ s. IsStatement
-        (record { auction = s.auction; lanes = s.lanes; seals = s.seals; plan = s.plan })
+    ghost invariant = { λ s. IsStatement (stated s.auction s.lanes s.seals s.plan)
         × (s.table ≡ s.plan.rows) };
 }
 
@@ -47,10 +41,8 @@ impl Statement {
         seals: Seq<SealLines>,
         plan: Plan,
     ) -> Result<Statement, NoMemory>
-        requires { IsStatement
-            (record { auction = auction; lanes = lanes; seals = seals; plan = plan }) }
-        ensures { IfOk result (λ statement. statement
-            ≡ record { auction = auction; lanes = lanes; seals = seals; plan = plan }) }
+        requires { IsStatement (stated auction lanes seals plan) }
+        ensures { IfOk result (λ statement. statement ≡ stated auction lanes seals plan) }
     {
         let table = RowTable::of(alloc, &plan)?;
         Ok(Statement {

@@ -1,8 +1,6 @@
 // How two replies to a file are read on, behind its front.
 ghost use Rattle.std.specs.Prelude.{◌≡◌, ◌⊎◌, ◌≤◌, ◌<◌, ◌+◌, ℕ, Some, None, Result, Ok, IsSome, IfSome, IfOk, IfErr, IsErrOf, OnOk};
-ghost use Rattle.vk_io.specs.Faults.{Causes};
-ghost use Rattle.vk_io.specs.Files.{Files};
-ghost use Rattle.vk_lines.specs.Lines.{OnlyReads};
+ghost use Rattle.vk_lines.specs.Common.{Causes, Files, OnlyReads};
 ghost use Rattle.vk_judge.specs.declared.answers.Fault.{Fault};
 ghost use Rattle.vk_judge.specs.declared.stage.Base.{Base};
 ghost use Rattle.vk_judge.specs.declared.stage.Finding.{Finding};
@@ -16,7 +14,7 @@ ghost use Rattle.vk_judge.specs.Two.{Ahead, BothAreAccepted, GivesLane, IsBase, 
 use crate::answers::Fault;
 use crate::halt::Halt;
 use crate::opened::Refusal;
-use crate::stage::{Base, Course, Finding, Stage, TwoLane, TwoReaders};
+use crate::stage::{Base, Course, Finding, NextLane, Stage, TwoLane, TwoReaders};
 use crate::two_halt::TwoHalt;
 use crate::two_lane::next_step;
 use std::alloc::Global;
@@ -27,14 +25,8 @@ fn as_found<R: Copy>(finding: Finding<Fault>) -> Finding<Refusal<R>>
     ensures value { result ≡ as_found finding }
     ensures accepted { BothAreAccepted result → BothAreAccepted finding }
 {
-    match finding {
-        Finding::Ready => Finding::Ready,
-        Finding::Same => Finding::Same,
-        Finding::Refused { second, verdict } => {
-            let verdict = Refusal::Fault(verdict);
-            Finding::Refused { second, verdict }
-        }
-    }
+    let found = finding.told();
+    found
 }
 
 /// Before the first lane of a file with this head, where there is no fault before it.
@@ -79,7 +71,7 @@ pub fn next_on_course<S: Shelf, H: Drop, R: Copy>(
     alloc: Global,
     shelf: &mut S,
     course: Course<H, R>,
-) -> Result<(Course<H, R>, Option<TwoLane>), OutsideErr>
+) -> NextLane<Course<H, R>>
     requires { IsCourse course }
     ensures modelled { IfSome (S.held shelf.old) (λ files. IfOk result
         (λ next. CheckedGoesOn (Running course) next.1 (Running next.0) files)) }
@@ -117,7 +109,7 @@ fn after_step<H: Drop, R: Copy>(
     readers: TwoReaders,
     given: u32,
     step: Result<TwoLane, TwoHalt>,
-) -> Result<(Course<H, R>, Option<TwoLane>), OutsideErr>
+) -> NextLane<Course<H, R>>
     requires base { IsBase base }
     requires within { given ≤ base.statement.lanes }
     requires right { IfOk step (IsTwoLane base.statement (given + 1)) }

@@ -1,7 +1,6 @@
 // Why two replies are not read on.
 ghost use Rattle.std.specs.Prelude.{◌≡◌, ℕ, Result, Ok, Err, IfOk, IfErr, IsOk, IsErr, IsTrue, IsFalse};
-ghost use Rattle.vk_io.specs.Faults.{Causes};
-ghost use Rattle.vk_lines.specs.Lines.{Rest};
+ghost use Rattle.vk_lines.specs.Common.{Causes, Rest};
 ghost use Rattle.vk_judge.specs.declared.answers.Fault.{Fault};
 ghost use Rattle.vk_judge.specs.Behind.{Judges};
 ghost use Rattle.vk_judge.specs.Two.{IsFound, Refuses, second_fault, second_part, of_first, of_second, second_told, found_by, is_refused, accepted_of};

@@ -3,7 +3,7 @@ ghost use Rattle.std.specs.Prelude.{◌≡◌, ◌⊎◌, ◌≤◌, ◌<◌, �
 ghost use Rattle.vk_lines.specs.Lines.{OnlyReads, rest_of, end_at};
 ghost use Rattle.vk_row.specs.Lanes.{IsAccepted};
 ghost use Rattle.vk_judge.specs.Statement.{IsStatement};
-ghost use Rattle.vk_judge.specs.Behind.{Judges, in_part};
+ghost use Rattle.vk_judge.specs.Behind.{Judges, JudgesOn, in_part};
 ghost use Rattle.vk_judge.specs.Parts.{reply_judged, attempt_at, rest_judged, rest_left, AreLeft, Fits};
 ghost use Rattle.vk_judge.specs.Two.{IsFound, GivesLane, Refuses, of_second, two_lane_at, base_behind, second_begun, ends_found, accepted_of, ahead_on, rests_of, IsBase, IsTwoLane};
 
@@ -58,12 +58,12 @@ fn read_second<S: Shelf>(
     requires base { IsBase base.now }
     requires fits { Fits base.now.statement.plan case.now }
     requires within { lane ≤ base.now.statement.lanes }
-    ensures modelled { IfSome (S.held shelf.old)
-        (λ files. Judges (λ shown. (shown, rest_of readers.new.second files)) result
-        (of_second (rest_judged base.now.statement (lane + 1) (drop lane base.now.first_bits)
+    ensures modelled { JudgesOn (S.held shelf.old) (rest_of readers.new.second) result
+        (λ files. of_second (rest_judged base.now.statement (lane + 1)
+        (drop lane base.now.first_bits)
         (rest_of readers.old.pair.file files) (rest_of readers.old.pair.reply files))
         (reply_judged base.now.statement.plan case.now lane bit
-        (rest_of readers.old.second files)))) }
+        (rest_of readers.old.second files))) }
     ensures pair { OnOk result (readers.new.pair ≡ readers.old.pair) }
     ensures accepted { IfOk result (IsAccepted base.now.statement.plan case.now bit) }
     ensures refuses { IfErr result Refuses }
@@ -103,10 +103,9 @@ fn read_two<S: Shelf>(
     requires base { IsBase base.now }
     requires first { 1 ≤ lane }
     requires last { lane ≤ base.now.statement.lanes }
-    ensures modelled { IfSome (S.held shelf.old)
-        (λ files. Judges (λ two. (two, rests_of readers.new files)) result
-        (two_lane_at base.now.statement lane first_bit second_bit (drop lane base.now.first_bits)
-        (rests_of readers.old files))) }
+    ensures modelled { JudgesOn (S.held shelf.old) (rests_of readers.new) result
+        (λ files. two_lane_at base.now.statement lane first_bit second_bit
+        (drop lane base.now.first_bits) (rests_of readers.old files)) }
     ensures right { IfOk result (IsTwoLane base.now.statement lane) }
     ensures refuses { IfErr result Refuses }
     ensures shelf { OnlyReads S.held S.Shelf.faults Halt.Failed result shelf.old shelf.new }
@@ -212,12 +211,11 @@ fn begin_second<S: Shelf>(
     readers: &mut TwoReaders,
 ) -> Result<Seq<bool>, TwoHalt>
     requires { length first_bits.now ≡ statement.now.lanes }
-    ensures modelled { IfSome (S.held shelf.old)
-        (λ files. Judges (λ bits. (bits, rest_of readers.new.second files)) result
-        (of_second (rest_judged statement.now 1 first_bits.now
+    ensures modelled { JudgesOn (S.held shelf.old) (rest_of readers.new.second) result
+        (λ files. of_second (rest_judged statement.now 1 first_bits.now
         (rest_of readers.old.pair.file files) (rest_of readers.old.pair.reply files))
         (attempt_at statement.now.lanes (rest_of challenge.old files)
-        (rest_of readers.old.second files)))) }
+        (rest_of readers.old.second files))) }
     ensures pair { OnOk result (readers.new.pair ≡ readers.old.pair) }
     ensures bits { IfOk result (λ bits. length bits ≡ statement.now.lanes) }
     ensures refuses { IfErr result Refuses }
@@ -247,11 +245,10 @@ pub fn begin_lanes<S: Shelf>(
     second: &mut Lines,
     readers: &mut TwoReaders,
 ) -> Result<Base, TwoHalt>
-    ensures modelled { IfSome (S.held shelf.old)
-        (λ files. Judges (λ base. (base, rests_of readers.new files)) result
-        (base_behind statement (rest_of readers.old.pair.file files) (rest_of first.old files)
-        (rest_of readers.old.pair.reply files) (rest_of second.old files)
-        (rest_of readers.old.second files))) }
+    ensures modelled { JudgesOn (S.held shelf.old) (rests_of readers.new) result
+        (λ files. base_behind statement (rest_of readers.old.pair.file files)
+        (rest_of first.old files) (rest_of readers.old.pair.reply files) (rest_of second.old files)
+        (rest_of readers.old.second files)) }
     ensures right { IfOk result IsBase }
     ensures statement { IfOk result (λ base. base.statement ≡ statement) }
     ensures refuses { IfErr result Refuses }

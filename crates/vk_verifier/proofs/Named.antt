@@ -5,15 +5,15 @@ use Rattle.vk_io.specs.Files.{Files}
 use Rattle.vk_judge.specs.declared.opened.Opened.{Opened}
 use Rattle.vk_judge.specs.declared.opened.Refusal.{Refusal}
 use Rattle.vk_judge.specs.declared.stage.Finding.{Finding}
-use Rattle.vk_judge.specs.declared.stage.Finding.TheVariants.{Refused, Same, Ready}
 use Rattle.vk_judge.specs.Begun.{five_rests, of_attempt, of_files, three_rests}
 use Rattle.vk_judge.specs.Opened.{FileBase, file_coming, opened_in}
 use Rattle.vk_judge.specs.Two.{BothAreAccepted}
 use Rattle.vk_judge.proofs.Attempts.{attempt_begun, files_begun}
+use Rattle.vk_judge.proofs.Found.{told_accepted}
 use Rattle.vk_verifier.specs.declared.answers.BoardRefusal.{BoardRefusal}
 use Rattle.vk_verifier.specs.declared.boards.PlacedHead.{PlacedHead}
 use Rattle.vk_verifier.specs.TwoBoards.{IsOfBoard, as_two, two_on}
-use Rattle.vk_verifier.specs.Verdicts.{IsBoard, board_front_at, verdict_at, verdict_on}
+use Rattle.vk_verifier.specs.Verdicts.{IsBoard, board_front_at, refused_verdict, verdict_at, verdict_on}
 
 pub verdict_begun : (files : Files) (board challenge reply : List ℕ)
     → verdict_on files board challenge reply
@@ -40,6 +40,4 @@ board_known opened (Some known) right is = subst (λ o. IfOk o IsBoard) is right
 
 pub found_accepted : (finding : Finding (Refusal BoardRefusal)) → BothAreAccepted (as_two finding)
     → BothAreAccepted finding
-found_accepted (Refused second refusal) accepted = accepted
-found_accepted Same accepted = accepted
-found_accepted Ready accepted = accepted
+found_accepted = told_accepted refused_verdict

@@ -4,9 +4,9 @@ use Rattle.vk_io.specs.Files.{Files}
 use Rattle.vk_judge.specs.declared.answers.VErr.{VErr}
 use Rattle.vk_judge.specs.declared.opened.Refusal.{Refusal}
 use Rattle.vk_judge.specs.declared.stage.Finding.{Finding}
-use Rattle.vk_judge.specs.declared.stage.Finding.TheVariants.{Refused, Same, Ready}
 use Rattle.vk_judge.specs.declared.named.TwoReplies.{TwoReplies}
 use Rattle.vk_judge.specs.Begun.{of_files}
+use Rattle.vk_judge.specs.Found.{told_by}
 use Rattle.vk_judge.specs.Opened.{Checked, Coming, FileBase, IsChecked, checked_base, checked_finding, file_coming, opened_in}
 use Rattle.vk_verifier.specs.declared.answers.BoardRefusal.{BoardRefusal}
 use Rattle.vk_verifier.specs.declared.answers.BoardVerdict.{BoardVerdict}
@@ -15,9 +15,7 @@ use Rattle.vk_verifier.specs.Verdicts.{IsBoard, board_front_at, refused_verdict}
 
 -- what is found, as the verdict on a board
 abbrev pub as_two : Finding (Refusal BoardRefusal) → Finding BoardVerdict
-as_two (Refused second refusal) = Refused second (refused_verdict refusal)
-as_two Same = Same
-as_two Ready = Ready
+as_two = told_by refused_verdict
 
 -- what is to come of the named files: of a board, a challenge and the reply to it, and another
 -- challenge and reply

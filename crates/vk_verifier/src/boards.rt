@@ -1,12 +1,7 @@
 // The verdict on a board, a challenge and a reply, as whole files.
 ghost use Rattle.std.specs.Prelude.{◌≡◌, ℕ, Result, Ok, IfSome, IfOk, IsErrOf};
-ghost use Rattle.vk_io.specs.Faults.{Causes};
-ghost use Rattle.vk_lines.specs.Lines.{OnlyReads, Rest, rest_of};
-ghost use Rattle.vk_lines.specs.Gives.{Gives};
+ghost use Rattle.vk_judge.specs.Common.{Causes, Gives, Judges, MemoryWasWanting, OnlyReads, Rest, and_rest, rest_of, unread_file};
 ghost use Rattle.vk_board.specs.Fronts.{FrontFault, IsFront, fault_of};
-ghost use Rattle.vk_judge.specs.Behind.{Judges, and_rest};
-ghost use Rattle.vk_judge.specs.Begun.{unread_file};
-ghost use Rattle.vk_judge.specs.Wanting.{MemoryWasWanting};
 ghost use Rattle.vk_verifier.specs.Answers.{front_answer};
 ghost use Rattle.vk_verifier.specs.Verdicts.{IsBoard, board_front_at, in_front, opened_board, plan_of, verdict_on};
 

@@ -1,21 +1,16 @@
 // Two replies to a board, side by side.
-ghost use Rattle.std.specs.Prelude.{◌≡◌, Some, IsSomeAnd, IfSome, IfOk, IsErrOf};
-ghost use Rattle.vk_lines.specs.Lines.{OnlyReads};
-ghost use Rattle.vk_lines.specs.Gives.{Gives};
-ghost use Rattle.vk_judge.specs.Wanting.{MemoryWasWanting};
-ghost use Rattle.vk_judge.specs.Begun.{unread_file};
-ghost use Rattle.vk_judge.specs.Opened.{GivesNext, HasOpened, IsCheckedOver, checked_base, checked_given, coming_of, opened_in};
-ghost use Rattle.vk_judge.specs.Two.{BothAreAccepted};
+ghost use Rattle.std.specs.Prelude.{◌≡◌, IfSome, IfOk};
+ghost use Rattle.vk_judge.specs.Opened.{GivesBegun, GivesFinding, GivesNext, HasOpened, IsCheckedOver, checked_base, opened_in};
 ghost use Rattle.vk_verifier.specs.Verdicts.{board_front, plan_of};
 ghost use Rattle.vk_verifier.specs.TwoBoards.{IsOfBoard, as_two, board_finding, two_named, two_on};
 
-use crate::answers::{BoardRefusal, BoardVerdict, TwoVerdict};
+use crate::answers::{BoardRefusal, TwoVerdict};
 use crate::boards::{PlacedHead, open_board};
 use std::alloc::Global;
 use std::marker::Model;
 use vk_board::Head;
-use vk_io::{OutsideErr, Shelf};
-use vk_judge::{Checker, Finding, Refusal, TwoLane, TwoReplies, VErr};
+use vk_io::Shelf;
+use vk_judge::{Checker, Finding, NextLane, Refusal, TwoReplies, VErr};
 use vk_plan::Plan;
 
 /// Reads the lanes of a board beside two replies.
@@ -30,13 +25,9 @@ pub fn begin_board<S: Shelf>(
     shelf: &mut S,
     names: &TwoReplies<'_>,
 ) -> Result<BoardChecker, VErr>
-    ensures modelled { IfSome (S.held shelf.old)
-        (λ files. Gives unread_file (λ checker. coming_of checker files) result
-        (two_named files names.now)) }
+    ensures begun { GivesBegun S.held S.Shelf.faults (λ files. two_named files names.now) result
+        shelf.old shelf.new }
     ensures right { IfOk result (λ checker. IsOfBoard (checked_base checker)) }
-    ensures none_given { IfOk result (λ checker. checked_given checker ≡ 0) }
-    ensures wanting { IsErrOf result VErr.NoMemory → MemoryWasWanting }
-    ensures shelf { OnlyReads S.held S.Shelf.faults VErr.Failed result shelf.old shelf.new }
 {
     let mut two = names.begin(alloc, shelf)?;
     let opened = open_board(alloc, shelf, &mut two.readers.pair.file)?;
@@ -75,12 +66,9 @@ impl TwoChecker {
         challenge2: &str,
         reply2: &str,
     ) -> Result<TwoChecker, VErr>
-        ensures modelled { IfSome (S.held shelf.old)
-            (λ files. Gives unread_file (λ checker. coming_of checker files) result
-            (two_on files board.now challenge1.now reply1.now challenge2.now reply2.now)) }
-        ensures none_given { IfOk result (λ checker. checked_given checker ≡ 0) }
-        ensures wanting { IsErrOf result VErr.NoMemory → MemoryWasWanting }
-        ensures shelf { OnlyReads S.held S.Shelf.faults VErr.Failed result shelf.old shelf.new }
+        ensures begun { GivesBegun S.held S.Shelf.faults
+            (λ files. two_on files board.now challenge1.now reply1.now challenge2.now reply2.now)
+            result shelf.old shelf.new }
     {
         let names = TwoReplies {
             file: board,
@@ -94,11 +82,7 @@ impl TwoChecker {
     }
 
     /// Gives the next lane, or none, as `Checker::next_lane` does.
-    pub fn next_lane<S: Shelf>(
-        self,
-        alloc: Global,
-        shelf: &mut S,
-    ) -> Result<(TwoChecker, Option<TwoLane>), OutsideErr>
+    pub fn next_lane<S: Shelf>(self, alloc: Global, shelf: &mut S) -> NextLane<Self>
         ensures next { GivesNext S.held S.Shelf.faults self result shelf.old shelf.new }
     {
         let TwoChecker { checker } = self;
@@ -110,10 +94,7 @@ impl TwoChecker {
     #[tactic(auto, using(crate::proofs::Named::found_accepted))]
     pub fn finding(&self) -> TwoVerdict
         requires { IsCheckedOver self.now }
-        ensures value { board_finding self.now ≡ Some result }
-        ensures all { BothAreAccepted result
-            → IsSomeAnd (checked_base self.now)
-            (λ known. checked_given self.now ≡ known.base.statement.lanes) }
+        ensures found { GivesFinding (board_finding self.now) self.now result }
     {
         let finding = self.checker.finding();
         as_two(finding)
@@ -141,12 +122,6 @@ impl TwoChecker {
 fn as_two(finding: Finding<Refusal<BoardRefusal>>) -> TwoVerdict
     ensures { result ≡ as_two finding }
 {
-    match finding {
-        Finding::Refused { second, verdict } => Finding::Refused {
-            second,
-            verdict: BoardVerdict::from(verdict),
-        },
-        Finding::Same => Finding::Same,
-        Finding::Ready => Finding::Ready,
-    }
+    let found = finding.told();
+    found
 }

@@ -1,8 +1,6 @@
 //! What two replies to a board come to.
 
-ghost use Rattle.vk_judge.specs.FileForms.{AcceptedGive, FindsByBoth, OnlyAcceptedGive};
-ghost use Rattle.vk_judge.specs.HeldFiles.{AreOfHeld};
-ghost use Rattle.vk_judge.specs.Opened.{file_coming};
+ghost use Rattle.vk_judge.specs.Common.{AcceptedGive, AreOfHeld, FindsByBoth, OnlyAcceptedGive, file_coming};
 ghost use Rattle.vk_verifier.specs.Refusals.{board_form};
 ghost use Rattle.vk_verifier.specs.Verdicts.{board_front_at};
 
