@@ -67,16 +67,7 @@ module _ {F H R : Type 0} (form : Form F H R) (is : IsForm form) (file challenge
       of_gathered : (base : Base) (gathered : Result (List LaneBids) TwoOpeningsSeen)
           → IsOfBehind both (given_by (opened_of base.statement) gathered)
           → IsOfFile form two (given_by (opened_by (headed base)) gathered)
-      of_gathered base (Ok lanes) is = record {
-        head = refl;
-        opened = record {
-          statement = is.statement;
-          numbers = is.numbers;
-          shown = is.shown;
-          opens = is.opens;
-          agree = is.agree;
-        };
-      }
+      of_gathered base (Ok lanes) is = record { head = refl; opened = is }
       of_gathered base (Err clash) is = is
 
       of_finding : (base : Option Base) (lanes : List TwoLane) (finding : Finding Fault)

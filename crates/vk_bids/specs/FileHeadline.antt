@@ -1,6 +1,6 @@
 -- The law of two replies to a file of any form that are accepted for different challenges: they
 -- open values for which its circuit holds, or give two openings of one commitment.
-use Rattle.std.specs.Prelude.{◌≡◌, ◌≢◌, ◌↔◌, ℕ, Bool, true, false, All, List, map, Err}
+use Rattle.std.specs.Prelude.{◌≡◌, ◌≢◌, ◌↔◌, ℕ, Bool, true, false, List, Err}
 use Rattle.vk_commit.specs.Commitment.{TwoOpeningsSeen}
 use Rattle.vk_wire.specs.declared.wire.Shown.{Shown}
 use Rattle.vk_judge.specs.declared.opened.Refusal.{Refusal}
@@ -12,8 +12,7 @@ use Rattle.vk_bids.specs.declared.lane_extraction.OpenedLanes.{OpenedLanes}
 use Rattle.vk_bids.specs.Extractions.{IsClashOr, IsFound}
 use Rattle.vk_bids.specs.FileExtraction.{FileExtraction, IsFoundBy, file_extraction_in}
 use Rattle.vk_bids.specs.Gathering.{lane_shown}
-use Rattle.vk_bids.specs.OpenedBehind.{AgreesAt, IsFirstClashOf, differing}
-use Rattle.vk_bids.specs.Opening.{AreShownIn, LaneOpens}
+use Rattle.vk_bids.specs.OpenedBehind.{AgreesAt, AreOpenedAt, IsFirstClashOf, differing}
 
 -- two replies are accepted with one file, each with its challenge, and the challenges differ
 pub record TwoAccepted {F : Type 0} (fronts : Fronts F)
@@ -42,16 +41,10 @@ module _ {F : Type 0} {fronts : Fronts F} {file challenge reply other second : L
   abbrev pub LaneAgrees : ℕ → Type 0
   LaneAgrees = AgreesAt (two_lane_in two.first two.second)
 
-  -- the values are of just the lanes whose two bits differ, in order. Those of each lane are opened
-  -- by what the replies show of it, they open its seals, and are inputs for which the circuit
-  -- holds. In each of these lanes the spent entries agree
-  pub record IsOpenedBy (opened : OpenedLanes) : Type 0 where
-    pub statement : opened.statement ≡ fronts.statement two.first.front
-    pub numbers : map (λ lane. lane.number) opened.lanes ≡ differing_in
-    pub shown : All (λ lane. AreShownIn (shown_of false lane.number) (shown_of true lane.number)
-        lane.bids) opened.lanes
-    pub opens : All (LaneOpens (fronts.statement two.first.front)) opened.lanes
-    pub agree : All LaneAgrees differing_in
+  -- the values are of just the lanes whose two bits differ
+  abbrev pub IsOpenedBy : OpenedLanes → Type 0
+  IsOpenedBy =
+      AreOpenedAt (fronts.statement two.first.front) (two_lane_in two.first two.second) differing_in
 
   -- one commitment of the file is opened with different values
   abbrev pub IsClashOf : TwoOpeningsSeen → Type 0

@@ -32,6 +32,18 @@ AgreesAt at number =
     (wire : ℕ) → wire < length (at number).case.coms
     → WireAgrees (lane_shown false (at number)) (lane_shown true (at number)) wire
 
+-- the values are of just the lanes with these numbers, in order. Those of each lane are opened by
+-- what the replies show of it, they open its seals, and are inputs for which the circuit holds. In
+-- each of these lanes the spent entries agree
+pub record AreOpenedAt (s : StatementValue) (at : ℕ → TwoLane) (those : List ℕ)
+    (opened : OpenedLanes) : Type 0 where
+  pub statement : opened.statement ≡ s
+  pub numbers : map (λ lane. lane.number) opened.lanes ≡ those
+  pub shown : All (λ lane. AreShownIn (lane_shown false (at lane.number))
+      (lane_shown true (at lane.number)) lane.bids) opened.lanes
+  pub opens : All (LaneOpens s) opened.lanes
+  pub agree : All (AgreesAt at) those
+
 -- one commitment of the auction with this id is opened with different values: in the first of the
 -- lanes with these numbers whose spent entries don't all agree, the first entry that doesn't
 pub record IsFirstClashOf (at : ℕ → TwoLane) (numbers id : List ℕ)
@@ -65,16 +77,9 @@ module _ {s : StatementValue} {front file challenge reply other second : List �
   abbrev pub lane_of : ℕ → TwoLane
   lane_of = two_lane_behind two.first two.second
 
-  -- the values are of just the lanes whose two bits differ, in order. Those of each lane are opened
-  -- by what the replies show of it, they open its seals, and are inputs for which the circuit
-  -- holds. In each of these lanes the spent entries agree
-  pub record IsOpened (opened : OpenedLanes) : Type 0 where
-    pub statement : opened.statement ≡ s
-    pub numbers : map (λ lane. lane.number) opened.lanes ≡ differing_behind
-    pub shown : All (λ lane. AreShownIn (lane_shown false (lane_of lane.number))
-        (lane_shown true (lane_of lane.number)) lane.bids) opened.lanes
-    pub opens : All (LaneOpens s) opened.lanes
-    pub agree : All (AgreesAt lane_of) differing_behind
+  -- the values are of just the lanes whose two bits differ
+  abbrev pub IsOpened : OpenedLanes → Type 0
+  IsOpened = AreOpenedAt s lane_of differing_behind
 
   -- one commitment of the auction is opened with different values
   abbrev pub IsClashBehind : TwoOpeningsSeen → Type 0

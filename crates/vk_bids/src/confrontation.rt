@@ -1,14 +1,10 @@
 // A bidder's secret against two replies to a board.
 ghost use Rattle.std.specs.Prelude.{◌≡◌, ◌<◌, ◌≤◌, ◌^◌, ℕ, List, All, IfOk, IfSome, IsErrOf, Ok, Result, length};
 ghost use Rattle.std.specs.FinMap as map;
-ghost use Rattle.vk_io.specs.Faults.{Causes};
-ghost use Rattle.vk_io.specs.Files.{Files};
-ghost use Rattle.vk_lines.specs.Gives.{Gives};
-ghost use Rattle.vk_lines.specs.Lines.{OnlyReads, GivesReading, Rest, Starts, rest_of};
+ghost use Rattle.vk_judge.specs.Common.{Causes, Files, Gives, GivesReading, MemoryWasWanting, OnlyReads, Rest, Starts, rest_of};
 ghost use Rattle.vk_seal.specs.Made.{seal_of};
 ghost use Rattle.vk_seal.specs.Values.{IsSecret};
 ghost use Rattle.vk_board.specs.Fronts.{IsFront};
-ghost use Rattle.vk_judge.specs.Wanting.{MemoryWasWanting};
 ghost use Rattle.vk_bids.specs.Confrontation.{OpensSecretIn, Secret, board_seal, confrontation_named, confrontation_of, confronted_found, confronted_lane, confronted_lanes, fault_of, index_of_seat, match_of, matched_by, secret_at, secret_begun, secret_in};
 ghost use Rattle.vk_bids.specs.Extraction.{Shows};
 ghost use Rattle.vk_bids.specs.Outcome.{LaneShows};

@@ -1,10 +1,6 @@
 // The extraction over files.
 ghost use Rattle.std.specs.Prelude.{◌≡◌, IfOk, IfSome, IsErrOf};
-ghost use Rattle.vk_io.specs.Reads.{OnlyReads};
-ghost use Rattle.vk_lines.specs.Gives.{Gives};
-ghost use Rattle.vk_judge.specs.Begun.{unread_file};
-ghost use Rattle.vk_judge.specs.Opened.{checked_base, checked_given, coming_of};
-ghost use Rattle.vk_judge.specs.Wanting.{MemoryWasWanting};
+ghost use Rattle.vk_judge.specs.Common.{Gives, MemoryWasWanting, OnlyReads, checked_base, checked_given, coming_of, unread_file};
 ghost use Rattle.vk_verifier.specs.TwoBoards.{IsOfBoard};
 ghost use Rattle.vk_bids.specs.Extraction.{Shows, as_extraction, board_extraction, extraction_named};
 

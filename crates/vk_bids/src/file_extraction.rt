@@ -1,11 +1,6 @@
 // What two replies to a file of any form come to.
 ghost use Rattle.std.specs.Prelude.{◌≡◌, All, IfOk, IfSome, IsErrOf};
-ghost use Rattle.vk_io.specs.Reads.{OnlyReads};
-ghost use Rattle.vk_judge.specs.Behind.{and_rest};
-ghost use Rattle.vk_judge.specs.Opened.{IsCheckedOver, checked_base, checked_finding, checked_given, coming_of};
-ghost use Rattle.vk_judge.specs.Statement.{IsStatement};
-ghost use Rattle.vk_judge.specs.Two.{of_two};
-ghost use Rattle.vk_judge.specs.Wanting.{MemoryWasWanting};
+ghost use Rattle.vk_judge.specs.Common.{IsCheckedOver, IsStatement, MemoryWasWanting, OnlyReads, and_rest, checked_base, checked_finding, checked_given, coming_of, of_two};
 ghost use Rattle.vk_bids.specs.Extractions.{OfBids, found_by, given_by};
 ghost use Rattle.vk_bids.specs.FileExtraction.{OpensBase, OpensFile, OpensValuesOf, extraction_of, extraction_past, opened_by, values_of};
 ghost use Rattle.vk_bids.specs.Opening.{LaneOpens};

@@ -2,9 +2,7 @@
 ghost use Rattle.std.specs.Prelude.{◌≡◌, ◌≤◌, ◌++◌, Ok, Err, All, IfErr, IfOk, IfSome, IsErr, OnErr, OnOk, false, true};
 ghost use Rattle.std.specs.Option.{option_to_list};
 ghost use Rattle.vk_row.specs.Lanes.{IsAccepted};
-ghost use Rattle.vk_judge.specs.Opened.{checked_base, checked_given};
-ghost use Rattle.vk_judge.specs.Two.{IsTwoLane};
-ghost use Rattle.vk_judge.specs.Wanting.{MemoryWasWanting};
+ghost use Rattle.vk_judge.specs.Common.{IsTwoLane, MemoryWasWanting, checked_base, checked_given};
 ghost use Rattle.vk_bids.specs.Gathering.{IsClashOf, IsLastLane, added, bids_of, lane_found};
 ghost use Rattle.vk_bids.specs.Opening.{IsCaseOf, LaneOpens};
 

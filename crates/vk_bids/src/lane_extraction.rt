@@ -1,8 +1,6 @@
 // What two replies open behind a front.
 ghost use Rattle.std.specs.Prelude.{◌≡◌, All, IfOk, IfSome, IsErrOf};
-ghost use Rattle.vk_io.specs.Reads.{OnlyReads};
-ghost use Rattle.vk_judge.specs.Opened.{IsCheckedOver, checked_base, checked_finding, checked_given, coming_of};
-ghost use Rattle.vk_judge.specs.Wanting.{MemoryWasWanting};
+ghost use Rattle.vk_judge.specs.Common.{IsCheckedOver, MemoryWasWanting, OnlyReads, checked_base, checked_finding, checked_given, coming_of};
 ghost use Rattle.vk_bids.specs.FileExtraction.{ComesTo};
 ghost use Rattle.vk_bids.specs.Opening.{LaneOpens};
 

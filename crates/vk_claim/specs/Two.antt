@@ -4,8 +4,8 @@ use Rattle.vk_io.specs.Files.{Files}
 use Rattle.vk_judge.specs.declared.answers.VErr.{VErr}
 use Rattle.vk_judge.specs.declared.opened.Refusal.{Refusal}
 use Rattle.vk_judge.specs.declared.stage.Finding.{Finding}
-use Rattle.vk_judge.specs.declared.stage.Finding.TheVariants.{Ready, Refused, Same}
 use Rattle.vk_judge.specs.Begun.{of_files}
+use Rattle.vk_judge.specs.Found.{told_by}
 use Rattle.vk_judge.specs.HeldFiles.{ComesOfHeld}
 use Rattle.vk_judge.specs.Opened.{Checked, Coming, FileBase, checked_finding, file_coming, opened_in}
 use Rattle.vk_claim.specs.declared.claim.ClaimRefusal.{ClaimRefusal}
@@ -17,9 +17,7 @@ use Rattle.vk_claim.specs.Verdicts.{refused_verdict}
 
 -- what is found, as it is told of a claim file
 abbrev pub as_claim_finding : Finding (Refusal ClaimRefusal) → Finding ClaimVerdict
-as_claim_finding Ready = Ready
-as_claim_finding Same = Same
-as_claim_finding (Refused second refusal) = Refused second (refused_verdict refusal)
+as_claim_finding = told_by refused_verdict
 
 -- what was found, where no lane is given any more
 abbrev pub claim_finding : Checked ClaimHead ClaimRefusal → Option (Finding ClaimVerdict)

@@ -1,8 +1,6 @@
 // What the lanes of a claim file are to show.
 ghost use Rattle.std.specs.Prelude.{◌≡◌, IfOk, IfSome, IsErrOf};
-ghost use Rattle.vk_lines.specs.Lines.{OnlyReads, rest_of};
-ghost use Rattle.vk_judge.specs.Behind.{and_rest};
-ghost use Rattle.vk_judge.specs.Wanting.{MemoryWasWanting};
+ghost use Rattle.vk_judge.specs.Common.{MemoryWasWanting, OnlyReads, and_rest, rest_of};
 ghost use Rattle.vk_claim.specs.Values.{IsClaimFront, plan_for};
 ghost use Rattle.vk_claim.specs.Claims.{IsClaim, claim_at, claim_with};
 

@@ -1,9 +1,6 @@
 // What two replies to a claim file come to.
 ghost use Rattle.std.specs.Prelude.{IfOk, IfSome, IsErrOf};
-ghost use Rattle.vk_lines.specs.Gives.{Gives};
-ghost use Rattle.vk_lines.specs.Lines.{OnlyReads};
-ghost use Rattle.vk_judge.specs.Begun.{unread_file};
-ghost use Rattle.vk_judge.specs.Wanting.{MemoryWasWanting};
+ghost use Rattle.vk_judge.specs.Common.{Gives, MemoryWasWanting, OnlyReads, unread_file};
 ghost use Rattle.vk_claim.specs.Extraction.{ShowsClaims, claim_extraction_named};
 
 use crate::circuits::Circuits;

@@ -4,7 +4,7 @@ ghost use Rattle.vk_lines.specs.Lines.{ReadsRight};
 ghost use Rattle.vk_claim.specs.Values.{IsClaimFront};
 ghost use Rattle.vk_claim.specs.Reading.{claim_front_at};
 
-use crate::head::{ClaimHead, read_claim_head};
+use crate::head::ClaimHead;
 use std::alloc::Global;
 use vk_board::{SealLines, read_seal_lines};
 use vk_io::Shelf;
@@ -30,7 +30,7 @@ pub fn read_claim_front<S: Shelf>(
     ensures reads { ReadsRight claim_front_at IsClaimFront S.held S.Shelf.faults
         lines.old lines.new shelf.old shelf.new result }
 {
-    let head = read_claim_head(alloc, shelf, lines)?;
+    let head = ClaimHead::read(alloc, shelf, lines)?;
     let seals = read_seal_lines(alloc, shelf, lines, head.inputs, head.lanes)?;
     Ok(ClaimFront { head, seals })
 }

@@ -1,8 +1,7 @@
 // The head of a claim file.
 ghost use Rattle.std.specs.Prelude.{◌≡◌, ◌++◌, ◌∷◌, [], codes, decimal, IfOk, OnOk};
 ghost use Rattle.std.specs.List.{flat_map};
-ghost use Rattle.vk_lines.specs.Forms.{line, spaced};
-ghost use Rattle.vk_lines.specs.Lines.{Reads, ReadsRight, line_by};
+ghost use Rattle.vk_judge.specs.Common.{Reads, ReadsRight, line, line_by, spaced};
 ghost use Rattle.vk_claim.specs.Values.{AreNumbers, IsClaimHead};
 ghost use Rattle.vk_claim.specs.Texts.{claim_head_text, numbers_text};
 ghost use Rattle.vk_claim.specs.Reading.{claim_head_at, kind_line, numbers_at};
@@ -32,31 +31,29 @@ pub struct ClaimHead {
     pub lanes: u32,
 }
 
-/// Reads the head of a claim file. Malformed carries the number of the first line that isn't what
-/// its place demands.
-#[tactic(auto, unfolding(crate::specs::Reading::claim_head_at, crate::specs::Reading::numbers_at))]
-pub fn read_claim_head<S: Shelf>(
-    alloc: Global,
-    shelf: &mut S,
-    lines: &mut Lines,
-) -> Result<ClaimHead, ReadErr>
-    ensures reads { ReadsRight claim_head_at IsClaimHead S.held S.Shelf.faults
-        lines.old lines.new shelf.old shelf.new result }
-{
-    lines.read_fixed(shelf, b"vickrey-claim 1")?;
-    let auction = lines.read_id(shelf, b"auction")?;
-    let kind = read_kind(shelf, lines)?;
-    let lanes = lines.read_number(shelf, b"lanes", 1, 64)?;
-    let inputs = lines.read_number(shelf, b"inputs", 1, 512)?;
-    let count = lines.read_number(shelf, b"numbers", 1, 128)?;
-    let numbers = read_many(alloc, shelf, lines, &NumberLine, count as u32)?;
-    Ok(ClaimHead {
-        auction,
-        kind,
-        lanes: lanes as u32,
-        inputs: inputs as u32,
-        numbers,
-    })
+impl ClaimHead {
+    /// Reads the head of a claim file. Malformed carries the number of the first line that isn't
+    /// what its place demands.
+    #[tactic(auto, unfolding(crate::specs::Reading::claim_head_at, crate::specs::Reading::numbers_at))]
+    pub fn read<S: Shelf>(alloc: Global, shelf: &mut S, lines: &mut Lines) -> Result<Self, ReadErr>
+        ensures reads { ReadsRight claim_head_at IsClaimHead S.held S.Shelf.faults
+            lines.old lines.new shelf.old shelf.new result }
+    {
+        lines.read_fixed(shelf, b"vickrey-claim 1")?;
+        let auction = lines.read_id(shelf, b"auction")?;
+        let kind = read_kind(shelf, lines)?;
+        let lanes = lines.read_number(shelf, b"lanes", 1, 64)?;
+        let inputs = lines.read_number(shelf, b"inputs", 1, 512)?;
+        let count = lines.read_number(shelf, b"numbers", 1, 128)?;
+        let numbers = read_many(alloc, shelf, lines, &NumberLine, count as u32)?;
+        Ok(ClaimHead {
+            auction,
+            kind,
+            lanes: lanes as u32,
+            inputs: inputs as u32,
+            numbers,
+        })
+    }
 }
 
 /// Reads the line of a kind.

@@ -2,7 +2,7 @@
 
 ghost use Rattle.std.specs.Prelude.{◌≡◌, ℕ, List};
 ghost use Rattle.std.specs.Result.{result_err};
-ghost use Rattle.vk_lines.specs.Forms.{FaultsAllButTexts, IsPart, IsWhole, fault_line, whole};
+ghost use Rattle.vk_judge.specs.Common.{AcceptedGive, FaultsAllButTexts, FindsByBoth, IsPart, IsWhole, fault_line, whole};
 ghost use Rattle.vk_board.specs.Values.{Shape};
 ghost use Rattle.vk_claim.specs.declared.head.ClaimHead.{ClaimHead};
 ghost use Rattle.vk_claim.specs.Values.{IsClaimFile, IsClaimFront, IsClaimHead};
@@ -13,7 +13,6 @@ ghost use Rattle.vk_claim.specs.Acceptance.{ClaimVerdictsAreExact, claim_form};
 ghost use Rattle.vk_claim.specs.Claims.{claim_at};
 ghost use Rattle.vk_claim.specs.Two.{ClaimFilesGive};
 ghost use Rattle.vk_claim.specs.Extraction.{AcceptedClaimsOpen, ClaimFilesAreExtracted};
-ghost use Rattle.vk_judge.specs.FileForms.{AcceptedGive, FindsByBoth};
 ghost use Rattle.vk_bids.specs.FileHeadline.{ExtractsByFinding, OnlyAcceptedOpenFile};
 
 use crate::circuits::Circuits;

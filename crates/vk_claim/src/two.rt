@@ -1,11 +1,6 @@
 // Two replies to a claim file, side by side.
-ghost use Rattle.std.specs.Prelude.{◌≡◌, Some, IfOk, IfSome, IsErrOf, IsSomeAnd};
-ghost use Rattle.vk_lines.specs.Gives.{Gives};
-ghost use Rattle.vk_lines.specs.Lines.{OnlyReads};
-ghost use Rattle.vk_judge.specs.Begun.{unread_file};
-ghost use Rattle.vk_judge.specs.Opened.{GivesNext, HasOpened, IsCheckedOver, checked_base, checked_given, coming_of};
-ghost use Rattle.vk_judge.specs.Two.{BothAreAccepted};
-ghost use Rattle.vk_judge.specs.Wanting.{MemoryWasWanting};
+ghost use Rattle.std.specs.Prelude.{◌≡◌, IfOk, IfSome};
+ghost use Rattle.vk_judge.specs.Opened.{GivesBegun, GivesFinding, GivesNext, HasOpened, IsCheckedOver, checked_base};
 ghost use Rattle.vk_claim.specs.Two.{IsClaimBase, as_claim_finding, claim_finding, two_claims_on};
 
 use crate::circuits::Circuits;
@@ -14,8 +9,8 @@ use crate::head::ClaimHead;
 use crate::verdict::ClaimVerdict;
 use std::alloc::Global;
 use std::marker::Model;
-use vk_io::{OutsideErr, Shelf};
-use vk_judge::{Checker, Finding, Refusal, TwoLane, TwoReplies, VErr};
+use vk_io::Shelf;
+use vk_judge::{Checker, Finding, NextLane, Refusal, TwoReplies, VErr};
 use vk_plan::Plan;
 
 /// What two replies to a claim file come to.
@@ -53,15 +48,11 @@ impl ClaimChecker {
         challenge2: &str,
         reply2: &str,
     ) -> Result<Self, VErr>
-        ensures modelled { IfSome (S.held shelf.old)
-            (λ files. Gives unread_file (λ checker. coming_of checker files) result
-            (two_claims_on (Q.admitted circuits.now) files board.now challenge1.now reply1.now
-            challenge2.now reply2.now)) }
+        ensures begun { GivesBegun S.held S.Shelf.faults
+            (λ files. two_claims_on (Q.admitted circuits.now) files board.now challenge1.now
+            reply1.now challenge2.now reply2.now) result shelf.old shelf.new }
         ensures claim { IfOk result
             (λ checker. IfSome (checked_base checker) (IsClaimBase (Q.admitted circuits.now))) }
-        ensures none_given { IfOk result (λ checker. checked_given checker ≡ 0) }
-        ensures wanting { IsErrOf result VErr.NoMemory → MemoryWasWanting }
-        ensures shelf { OnlyReads S.held S.Shelf.faults VErr.Failed result shelf.old shelf.new }
     {
         let names = TwoReplies {
             file: board,
@@ -79,11 +70,7 @@ impl ClaimChecker {
     /// Gives the next lane, where both replies are accepted so far, and none where every lane was
     /// given or one of the replies has its fault in the lane or before it. What they come to is
     /// known then.
-    pub fn next_lane<S: Shelf>(
-        self,
-        alloc: Global,
-        shelf: &mut S,
-    ) -> Result<(Self, Option<TwoLane>), OutsideErr>
+    pub fn next_lane<S: Shelf>(self, alloc: Global, shelf: &mut S) -> NextLane<Self>
         ensures next { GivesNext S.held S.Shelf.faults self result shelf.old shelf.new }
     {
         let ClaimChecker { checker } = self;
@@ -94,10 +81,7 @@ impl ClaimChecker {
     /// What both replies come to. Both are accepted only where every lane was given.
     pub fn finding(&self) -> ClaimFinding
         requires { IsCheckedOver self.now }
-        ensures value { claim_finding self.now ≡ Some result }
-        ensures all { BothAreAccepted result
-            → IsSomeAnd (checked_base self.now)
-            (λ known. checked_given self.now ≡ known.base.statement.lanes) }
+        ensures found { GivesFinding (claim_finding self.now) self.now result }
     {
         as_claim_finding(self.checker.finding())
     }
@@ -124,12 +108,6 @@ impl ClaimChecker {
 fn as_claim_finding(finding: Finding<Refusal<ClaimRefusal>>) -> ClaimFinding
     ensures { result ≡ as_claim_finding finding }
 {
-    match finding {
-        Finding::Ready => Finding::Ready,
-        Finding::Same => Finding::Same,
-        Finding::Refused { second, verdict } => {
-            let verdict = ClaimVerdict::from(verdict);
-            Finding::Refused { second, verdict }
-        }
-    }
+    let found = finding.told();
+    found
 }

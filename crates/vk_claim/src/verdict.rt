@@ -1,8 +1,6 @@
 // The verdict on a claim file, a challenge and a reply, as whole files.
 ghost use Rattle.std.specs.Prelude.{◌≡◌, IfSome};
-ghost use Rattle.vk_lines.specs.Gives.{Gives};
-ghost use Rattle.vk_lines.specs.Lines.{OnlyReads};
-ghost use Rattle.vk_judge.specs.Begun.{unread_file};
+ghost use Rattle.vk_judge.specs.Common.{Gives, OnlyReads, unread_file};
 ghost use Rattle.vk_claim.specs.Verdicts.{claim_judged_named, claim_verdict_on, refused_verdict, verdict_by};
 
 use crate::circuits::Circuits;

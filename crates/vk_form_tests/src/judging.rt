@@ -1,11 +1,8 @@
 // What is judged and extracted of sum files.
 ghost use Rattle.std.specs.Prelude.{◌≡◌, IfOk, IfSome};
 ghost use Rattle.std.specs.FinMap as map;
-ghost use Rattle.vk_lines.specs.Gives.{Gives};
-ghost use Rattle.vk_lines.specs.Lines.{OnlyReads, rest_of};
+ghost use Rattle.vk_judge.specs.Common.{Gives, JudgesOn, OnlyReads, and_rest, rest_of, unread_file};
 ghost use Rattle.vk_board.specs.Values.{AreSealsOf};
-ghost use Rattle.vk_judge.specs.Behind.{Judges, and_rest};
-ghost use Rattle.vk_judge.specs.Begun.{unread_file};
 ghost use Rattle.vk_form_tests.specs.Forms.{IsSumHead};
 ghost use Rattle.vk_form_tests.specs.Judging.{Begins, IsSum, OpensSums, opened_at, opened_sum, sum_extraction_on, sum_front_at, sum_judged_on};
 
@@ -31,9 +28,8 @@ fn read_sum<S: Shelf>(
     shelf: &mut S,
     lines: &mut Lines,
 ) -> Result<Opened<SumHead>, Halt<Fault>>
-    ensures modelled { IfSome (S.held shelf.old) (λ files.
-        Judges (λ opened. (opened, rest_of lines.new files)) result
-        (opened_at (rest_of lines.old files))) }
+    ensures modelled { JudgesOn (S.held shelf.old) (rest_of lines.new) result
+        (λ files. opened_at (rest_of lines.old files)) }
     ensures right { IfOk result (IsSum IsSumHead) }
     ensures shelf { OnlyReads S.held S.Shelf.faults Halt.Failed result shelf.old shelf.new }
 {
