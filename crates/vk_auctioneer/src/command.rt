@@ -1,8 +1,7 @@
 //! Whichever command of the house.
 
 ghost use Rattle.std.specs.Prelude.{◌≡◌, IfSome, None};
-ghost use Rattle.vk_words.specs.Orders.{IsHouseOrder, house_seen};
-ghost use Rattle.vk_words.specs.Scripts.{written_name_of};
+ghost use Rattle.vk_words.specs.Common.{IsHouseOrder, house_seen, written_name_of};
 ghost use Rattle.vk_auctioneer.specs.Answers.{AsksOnce};
 ghost use Rattle.vk_auctioneer.specs.Common.{Acts, CausesTwo, KeepsAnswers, Modelled, stores};
 ghost use Rattle.vk_auctioneer.specs.Effects.{house_effect};
@@ -10,7 +9,7 @@ ghost use Rattle.vk_auctioneer.specs.Leaving.{LeavesAsSaid};
 
 use crate::publishing::{answer, prove};
 use crate::standing::{announce, announce_reserve, show};
-use crate::submitting::submit;
+use crate::submitting::{RowNames, submit};
 use std::alloc::Global;
 use vk_effect::Said;
 use vk_io::{OutsideErr, Shelf};
@@ -62,7 +61,7 @@ pub fn house_command<S: Shelf, K: Keeper + Drop>(
             said
         }
         HouseOrder::Submit { id, seal, secret } => {
-            let said = submit(alloc, shelf, keeper, id, seal, secret);
+            let said = submit(alloc, shelf, keeper, id, RowNames { seal, secret });
             said
         }
         HouseOrder::Prove { id, seed, board } => {

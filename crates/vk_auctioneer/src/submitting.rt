@@ -18,9 +18,16 @@ use std::alloc::Global;
 use vk_effect::{Said, Unread, begin_named, named_value};
 use vk_house::{House, HouseErr};
 use vk_io::{OutsideErr, Shelf};
-use vk_keeper::Keeper;
+use vk_keeper::{Keeper, SealRow};
 use vk_residue::NoMemory;
-use vk_seal::{Seal, Secret, read_seal, read_secret};
+use vk_seal::{read_seal, read_secret};
+
+/// The names of the files that a seal and its secret stand in.
+#[derive(Clone, Copy)]
+pub struct RowNames<'a> {
+    pub seal: &'a str,
+    pub secret: &'a str,
+}
 
 /// Hands the named seal and its secret in.
 pub fn submit<S: Shelf, K: Keeper + Drop>(
@@ -28,10 +35,10 @@ pub fn submit<S: Shelf, K: Keeper + Drop>(
     shelf: &mut S,
     keeper: &mut K,
     id: &[u8; 16],
-    seal: &str,
-    secret: &str,
+    names: RowNames<'_>,
 ) -> Result<Said, OutsideErr>
-    ensures acts { IfSome (on_both (λ held kept. submit_effect held kept id.now seal.now secret.now)
+    ensures acts { IfSome (on_both
+        (λ held kept. submit_effect held kept id.now names.entry.seal.now names.entry.secret.now)
         (S.held shelf.old) (K.ledger keeper.old))
         (λ effect. Acts result effect (stores (S.held shelf.old) (K.ledger keeper.old))
         (stores (S.held shelf.new) (K.ledger keeper.new))) }
@@ -41,10 +48,9 @@ pub fn submit<S: Shelf, K: Keeper + Drop>(
     ensures causes { CausesTwo OutsideErr.Failed result (S.Shelf.faults shelf.old)
         (S.Shelf.faults shelf.new) (K.faults keeper.old) (K.faults keeper.new) }
 {
-    match row(alloc, shelf, seal, secret) {
-        Ok(read) => {
-            let (seal, secret) = read;
-            let said = hand_in(alloc, keeper, id, seal, secret);
+    match row(alloc, shelf, names) {
+        Ok(row) => {
+            let said = hand_in(alloc, keeper, id, row);
             said
         }
         Err(unread) => unread.said_or_stopped(),
@@ -53,26 +59,21 @@ pub fn submit<S: Shelf, K: Keeper + Drop>(
 
 /// Reads the named seal and its secret.
 #[tactic(auto, unfolding(crate::specs::Inputs::row_in))]
-fn row<S: Shelf>(
-    alloc: Global,
-    shelf: &mut S,
-    seal: &str,
-    secret: &str,
-) -> Result<(Seal, Secret), Unread>
+fn row<S: Shelf>(alloc: Global, shelf: &mut S, names: RowNames<'_>) -> Result<SealRow, Unread>
     ensures modelled { IfSome (S.held shelf.old)
-        (λ files. Gives said_of_unread (λ read. record { seal = read.0; secret = read.1 }) result
-        (row_in files seal.now secret.now)) }
-    ensures seal { IfOk result (λ read. IsSeal read.0) }
-    ensures secret { IfOk result (λ read. IsSecret read.1) }
+        (λ files. Gives said_of_unread (λ row. row) result
+        (row_in files names.entry.seal.now names.entry.secret.now)) }
+    ensures seal { IfOk result (λ row. IsSeal row.seal) }
+    ensures secret { IfOk result (λ row. IsSecret row.secret) }
     ensures shelf { OnlyReads S.held S.Shelf.faults Unread.Failed result shelf.old shelf.new }
 {
-    let mut seal_lines = begin_named(alloc, shelf, seal)?;
-    let mut secret_lines = begin_named(alloc, shelf, secret)?;
+    let mut seal_lines = begin_named(alloc, shelf, names.seal)?;
+    let mut secret_lines = begin_named(alloc, shelf, names.secret)?;
     let read = read_seal(alloc, shelf, &mut seal_lines);
-    let seal = named_value(alloc, seal, read)?;
+    let seal = named_value(alloc, names.seal, read)?;
     let read = read_secret(alloc, shelf, &mut secret_lines);
-    let secret = named_value(alloc, secret, read)?;
-    Ok((seal, secret))
+    let secret = named_value(alloc, names.secret, read)?;
+    Ok(SealRow { seal, secret })
 }
 
 /// Hands a seal and its secret in.
@@ -80,14 +81,15 @@ fn hand_in<K: Keeper + Drop>(
     alloc: Global,
     keeper: &mut K,
     id: &[u8; 16],
-    seal: Seal,
-    secret: Secret,
+    row: SealRow,
 ) -> Result<Said, OutsideErr>
-    requires seal { IsSeal seal }
-    requires secret { IsSecret secret }
+    requires seal { IsSeal row.seal }
+    requires secret { IsSecret row.secret }
     ensures { AsksAlone K.ledger K.turns K.faults
-        (λ kept. asked no_file kept (Submit id.now seal secret)) result keeper.old keeper.new }
+        (λ kept. asked no_file kept (Submit id.now row.seal row.secret)) result keeper.old
+        keeper.new }
 {
+    let SealRow { seal, secret } = row;
     let seat = seal.seat;
     let answer = House::over(keeper).submit(id, seal, secret);
     let said = handed_in(alloc, seat, answer);

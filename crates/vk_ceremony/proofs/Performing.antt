@@ -28,6 +28,14 @@ act_of order files ledger effect = record {
   kept = ledger_by (asked_in files order) ledger;
 }
 
+-- it is an act, where the order has that effect, which leaves the ledger that the act keeps
+abbrev act_is : (order : HouseWords) (files : Files) (ledger : Ledger) (effect : Effect)
+    → let act = act_of order files ledger effect in
+    house_effect (Some files) (Some ledger) order ≡ Some effect → effect.ledger ≡ Some act.kept
+    → IsAct act
+act_is order files ledger effect is kept =
+    record { effect = effect; effect_is = is; said_is = refl; left_is = refl; kept_is = kept }
+
 -- ---- all of them were done
 
 -- these files and this ledger are outside
@@ -111,13 +119,7 @@ module _ (order : HouseWords) (files : Files) (ledger : Ledger) (effect : Effect
       (order_reaches files ledger order effect is)
 
   abbrev is_act : IsAct act
-  is_act = record {
-    effect = effect;
-    effect_is = is;
-    said_is = refl;
-    left_is = refl;
-    kept_is = kept_by_effect;
-  }
+  is_act = act_is order files ledger effect is kept_by_effect
 
   holds_after : (now : Outside) → Holds now files ledger → Holds (done effect now) act.left act.kept
   holds_after now holds = record {

@@ -3,12 +3,10 @@
 ghost use Rattle.std.specs.Prelude.{◌≡◌, ◌≢◌, ◌⊎◌, ℕ, List, [], ◌∷◌, map, Contains, Option, Some, None, Result, Ok, IfSome, IsSomeAnd};
 ghost use Rattle.std.specs.List.{AllByRecursion};
 ghost use Rattle.vk_io.specs.declared.errors.OutsideErr.{OutsideErr};
-ghost use Rattle.vk_lines.specs.Forms.{FaultsAllButTexts, fault_line};
-ghost use Rattle.vk_lines.specs.Lines.{Rest};
+ghost use Rattle.vk_lines.specs.Common.{FaultsAllButTexts, Rest, fault_line};
 ghost use Rattle.vk_keeper.specs.Ledgers.{Ledger, IsLedger};
 ghost use Rattle.vk_house.specs.Commands.{HouseCommand};
-ghost use Rattle.vk_words.specs.Commands.{House, command_words};
-ghost use Rattle.vk_words.specs.Orders.{HouseWords};
+ghost use Rattle.vk_words.specs.Common.{House, HouseWords, command_words};
 ghost use Rattle.vk_effect.specs.Effects.{Outside, outside, stores};
 ghost use Rattle.vk_effect.specs.Ends.{Done, Ends};
 ghost use Rattle.vk_auctioneer.specs.Common.{Files, KeepsAnswers};

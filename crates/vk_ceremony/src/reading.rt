@@ -1,9 +1,7 @@
 //! A script, line by line.
 
 ghost use Rattle.std.specs.Prelude.{◌≡◌, ◌≤◌, ◌+◌, ◌^◌, ℕ, List, Ok, IfOk, IfSome};
-ghost use Rattle.vk_io.specs.Files.{Files};
-ghost use Rattle.vk_lines.specs.Gives.{Gives};
-ghost use Rattle.vk_lines.specs.Lines.{IsNext, KeepsFile, LinesValue, OnlyReads, Rest, rest_of, text_at};
+ghost use Rattle.vk_lines.specs.Common.{Files, Gives, IsNext, KeepsFile, LinesValue, OnlyReads, Rest, rest_of, text_at};
 ghost use Rattle.vk_effect.specs.Reading.{said_of_unread};
 ghost use Rattle.vk_ceremony.specs.Scripts.{over_at, script_begun};
 ghost use Rattle.vk_ceremony.specs.Turns.{IsWords, Stands, over_by};

@@ -1,6 +1,5 @@
 pub mod Passing
 pub mod Deciding
-mod Keeping
 pub mod Stepping
 pub mod Alone
 pub mod Once

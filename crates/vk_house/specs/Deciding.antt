@@ -3,6 +3,7 @@ use Rattle.std.specs.Prelude.{◌≡◌, ◌⊎◌, ℕ, List, Option, Some, Non
 use Rattle.vk_keeper.specs.declared.auction.Auction.{Auction}
 use Rattle.vk_keeper.specs.declared.auction.Phase.{Phase}
 use Rattle.vk_keeper.specs.Auctions.{IsAuction}
+use Rattle.vk_keeper.specs.Ledgers.{Ledger}
 use Rattle.vk_keeper.specs.Turns.{Turns, AfterPut}
 use Rattle.vk_job.specs.Jobs.{dry_in, seed_in, sale_in}
 use Rattle.vk_house.specs.declared.errors.HouseErr.{HouseErr}
@@ -10,7 +11,7 @@ use Rattle.vk_house.specs.declared.errors.HouseErr.TheVariants as house
 use Rattle.vk_house.specs.declared.working.Decision.{Decision}
 use Rattle.vk_house.specs.Replies.{Work}
 use Rattle.vk_house.specs.Tests.{dry_seed}
-use Rattle.vk_house.specs.Steps.{Step, refused, in_phase}
+use Rattle.vk_house.specs.Steps.{Step, ledger_after, refused, in_phase}
 use Rattle.vk_house.specs.Answers.{work_of}
 
 -- a decision on what stands under an id is the step, or want of memory
@@ -47,16 +48,23 @@ work_step auction phase =
     let later = phased auction phase in
     worked (own_dry later) later (option_map (in_phase auction) phase)
 
--- a decision on what was found: it is on that auction, and what is kept anew is the auction that is
--- answered of
-pub record IsDecisionOn (found : Option Auction) (decision : Decision) : Type 0 where
-  pub id : (id : List ℕ) → IfSome found (λ auction. auction.id ≡ id) → decision.job.auction.id ≡ id
+-- a decision on what was found under an id: it is on that auction, and what is kept anew is the
+-- auction that is answered of
+pub record IsDecisionOn (id : List ℕ) (decision : Decision) : Type 0 where
+  pub own : decision.job.auction.id ≡ id
   pub kept : IfSome decision.kept (λ auction. auction ≡ decision.job.auction)
   pub right : IfSome decision.kept IsAuction
 
 -- what is answered and kept, as a step
 abbrev pub step_of : Decision → Step
 step_of decision = record { reply = work_of decision.job; kept = decision.kept }
+
+-- the auction that is kept anew, if one is, stands under its id, and all other ids stay; refused,
+-- nothing changed
+abbrev pub KeepsAnew : {T E : Type 0} → Decision → Result T E → Ledger → Ledger → Type 0
+KeepsAnew decision (Ok done) old new =
+    new ≡ ledger_after old decision.job.auction.id decision.kept
+KeepsAnew decision (Err refusal) old new = new ≡ old
 
 -- ---- want of memory
 

@@ -1,25 +1,24 @@
-ghost use Rattle.std.specs.Prelude.{◌≡◌, ◌<◌, ◌^◌, ℕ, IfOk, IfSome, List, OnErr, Some};
+ghost use Rattle.std.specs.Prelude.{◌≡◌, ◌<◌, ◌^◌, IfOk, Some};
 ghost use Rattle.vk_residue.specs.Limits.{IsSize};
-ghost use Rattle.vk_io.specs.Faults.{Causes};
-ghost use Rattle.vk_io.specs.Files.{Modelled};
+ghost use Rattle.vk_lines.specs.Common.{Causes, Modelled};
 ghost use Rattle.vk_reply.specs.Values.{IsChallenge};
 ghost use Rattle.vk_seal.specs.Values.{IsSeal, IsSecret};
-ghost use Rattle.vk_keeper.specs.Auctions.{IsAuction, seed_of, challenge_of};
+ghost use Rattle.vk_keeper.specs.Auctions.{seed_of, challenge_of};
 ghost use Rattle.vk_house.specs.Answers.{work_of};
 ghost use Rattle.vk_house.specs.Calls.{CallsHouse};
 ghost use Rattle.vk_house.specs.Commands.{Announce, AnnounceReserve, Submit, Prove, Answer, Show};
-ghost use Rattle.vk_house.specs.Deciding.{MayPut};
+ghost use Rattle.vk_house.specs.Deciding.{IsDecisionOn, KeepsAnew, MayPut};
 ghost use Rattle.vk_house.specs.Replies.{Done, Position, Stands};
-ghost use Rattle.vk_house.specs.Steps.{ledger_after};
 
 use crate::errors::HouseErr;
+use crate::found::Found;
 use crate::opening::{decide_announce, decide_submit};
 use crate::standing::{Standing, decide_show};
-use crate::working::{decide_answer, decide_prove};
+use crate::working::{Decision, decide_answer, decide_prove};
 use std::alloc::Global;
 use vk_io::OutsideErr;
 use vk_job::Job;
-use vk_keeper::{Auction, Keeper};
+use vk_keeper::Keeper;
 use vk_reply::Challenge;
 use vk_seal::{Seal, Secret};
 
@@ -51,7 +50,8 @@ impl<'a, K: Keeper + Drop> House<'a, K> {
             self.old.keeper.now self.new.keeper.now }
         ensures keeper { self.new.keeper.ghost_name ≡ self.old.keeper.ghost_name }
     {
-        let auction = decide_announce(alloc, self.keeper.get(id)?, id, width, lanes, None)?;
+        let found = Found::under(id, self.keeper.get(id)?);
+        let auction = decide_announce(alloc, found, width, lanes, None)?;
         self.keeper.put(auction)?;
         Ok(())
     }
@@ -73,8 +73,9 @@ impl<'a, K: Keeper + Drop> House<'a, K> {
             self.old.keeper.now self.new.keeper.now }
         ensures keeper { self.new.keeper.ghost_name ≡ self.old.keeper.ghost_name }
     {
+        let found = Found::under(id, self.keeper.get(id)?);
         let reserve = Some(reserve);
-        let auction = decide_announce(alloc, self.keeper.get(id)?, id, width, lanes, reserve)?;
+        let auction = decide_announce(alloc, found, width, lanes, reserve)?;
         self.keeper.put(auction)?;
         Ok(())
     }
@@ -89,7 +90,8 @@ impl<'a, K: Keeper + Drop> House<'a, K> {
             self.old.keeper.now self.new.keeper.now }
         ensures keeper { self.new.keeper.ghost_name ≡ self.old.keeper.ghost_name }
     {
-        let joined = decide_submit(self.keeper.get(id)?, seal, secret)?;
+        let found = Found::under(id, self.keeper.get(id)?);
+        let joined = decide_submit(found, seal, secret)?;
         self.keeper.put(joined.auction)?;
         Ok(joined.position)
     }
@@ -105,9 +107,10 @@ impl<'a, K: Keeper + Drop> House<'a, K> {
         ensures id { IfOk result (λ job. job.auction.id ≡ id.now) }
         ensures seed { IfOk result (λ job. seed_of job.auction.phase ≡ Some seed.now) }
     {
-        let proving = decide_prove(alloc, self.keeper.get(id)?, seed)?;
-        keep(self.keeper, proving.kept)?;
-        Ok(proving.job)
+        let found = Found::under(id, self.keeper.get(id)?);
+        let proving = decide_prove(alloc, found, seed)?;
+        let job = keep(self.keeper, proving)?;
+        Ok(job)
     }
 
     /// The job of the auction with that challenge. In phase Proved the challenge is kept, and no
@@ -129,9 +132,10 @@ impl<'a, K: Keeper + Drop> House<'a, K> {
         ensures answered { IfOk result
             (λ job. challenge_of job.auction.phase ≡ Some challenge.now) }
     {
-        let answering = decide_answer(alloc, self.keeper.get(id)?, challenge)?;
-        keep(self.keeper, answering.kept)?;
-        Ok(answering.job)
+        let found = Found::under(id, self.keeper.get(id)?);
+        let answering = decide_answer(alloc, found, challenge)?;
+        let job = keep(self.keeper, answering)?;
+        Ok(job)
     }
 
     /// How the auction stands. Refused where the id is unknown.
@@ -141,24 +145,24 @@ impl<'a, K: Keeper + Drop> House<'a, K> {
             self.old.keeper.now self.new.keeper.now }
         ensures keeper { self.new.keeper.ghost_name ≡ self.old.keeper.ghost_name }
     {
-        let standing = decide_show(self.keeper.get(id)?)?;
+        let found = Found::under(id, self.keeper.get(id)?);
+        let standing = decide_show(found)?;
         Ok(standing)
     }
 }
 
-/// Keeps the auction, where there is one.
-fn keep<K: Keeper>(keeper: &mut K, kept: Option<Auction>) -> Result<(), OutsideErr>
-    requires { IfSome kept IsAuction }
-    ensures put { (id : List ℕ) → IfSome kept (λ auction. auction.id ≡ id)
-        → IfOk result (λ _. Modelled (λ old new. new ≡ ledger_after old id kept)
-        (K.ledger keeper.old) (K.ledger keeper.new)) }
-    ensures refused { OnErr result
-        (Modelled (λ old new. new ≡ old) (K.ledger keeper.old) (K.ledger keeper.new)) }
+/// Keeps the auction that is to be kept anew, if one is, and answers the job.
+fn keep<K: Keeper>(keeper: &mut K, decision: Decision) -> Result<Job, OutsideErr>
+    requires { IsDecisionOn decision.job.auction.id decision }
+    ensures job { IfOk result (λ job. job ≡ decision.job) }
+    ensures put { Modelled (KeepsAnew decision result) (K.ledger keeper.old)
+        (K.ledger keeper.new) }
     ensures turn { MayPut (K.turns keeper.old) (K.turns keeper.new) }
     ensures causes { Causes OutsideErr.Failed result (K.faults keeper.old) (K.faults keeper.new) }
 {
+    let Decision { job, kept } = decision;
     if let Some(auction) = kept {
         keeper.put(auction)?;
     }
-    Ok(())
+    Ok(job)
 }

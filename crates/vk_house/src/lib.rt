@@ -3,6 +3,7 @@
 #![tactic(auto)]
 
 mod errors;
+mod found;
 mod house;
 mod laws;
 mod opening;

@@ -1,6 +1,6 @@
 //! `announce`, `announce_reserve` and `submit`: an auction begins, and takes seals.
 
-ghost use Rattle.std.specs.Prelude.{◌≡◌, ◌+◌, ◌<◌, ◌≤◌, ◌^◌, ◌⊎◌, ℕ, IfNone, IfSome, IfOk, IsOk, IsErrOf, List, None, Some, length, true, false};
+ghost use Rattle.std.specs.Prelude.{◌≡◌, ◌+◌, ◌<◌, ◌≤◌, ◌^◌, ◌⊎◌, IfNone, IfSome, IfOk, IsOk, IsErrOf, None, Some, length, true, false};
 ghost use Rattle.std.specs.Result.{result_err};
 ghost use Rattle.vk_residue.specs.Limits.{IsSize};
 ghost use Rattle.vk_seal.specs.Values.{IsSeal, IsSecret};
@@ -13,6 +13,7 @@ ghost use Rattle.vk_house.specs.Refusals.{refusal_of};
 ghost use Rattle.vk_house.specs.Steps.{step_at};
 
 use crate::errors::HouseErr;
+use crate::found::Found;
 use crate::standing::PhaseName;
 use std::alloc::Global;
 use vk_keeper::{Auction, Phase, SealRow};
@@ -35,8 +36,7 @@ fn terms_of(reserve: Option<u64>) -> (u32, u64)
 #[tactic(auto, unfolding(crate::specs::Steps::step_at, vk_keeper::specs::Joining::first_of))]
 pub fn decide_announce(
     alloc: Global,
-    found: Option<Auction>,
-    id: &[u8; 16],
+    found: Found,
     width: u32,
     lanes: u32,
     reserve: Option<u64>,
@@ -44,19 +44,19 @@ pub fn decide_announce(
     requires size { IsSize width lanes }
     requires small { IfSome reserve (λ reserve. reserve < 2 ^ width) }
     ensures decided { Decides (λ auction. record { reply = Done; kept = Some auction }) result
-        (step_at (announcing id.now width lanes reserve) found) }
+        (step_at (announcing found.id width lanes reserve) found.auction) }
     ensures right { IfOk result IsAuction }
-    ensures id { IfOk result (λ auction. auction.id ≡ id.now) }
+    ensures id { IfOk result (λ auction. auction.id ≡ found.id) }
     ensures passes { IfOk result
-        (λ _. refusal_of (announcing id.now width lanes reserve) found ≡ None) }
+        (λ _. refusal_of (announcing found.id width lanes reserve) found.auction ≡ None) }
     ensures memory { IsErrOf result HouseErr.NoMemory → ⊥ }
 {
-    if found.is_some() {
+    if found.auction.is_some() {
         return Err(HouseErr::Known);
     }
     let (version, reserve) = terms_of(reserve);
     Ok(Auction {
-        id: *id,
+        id: found.id,
         version,
         reserve,
         width,
@@ -92,23 +92,22 @@ pub struct Joined {
 /// What `submit` keeps and answers, by what was found under the id. A refusal is told whatever
 /// memory there is.
 #[tactic(auto, unfolding(crate::specs::Steps::step_at, vk_keeper::specs::Joining::first_of))]
-pub fn decide_submit(found: Option<Auction>, seal: Seal, secret: Secret) -> Result<Joined, HouseErr>
-    requires found { IfSome found IsAuction }
+pub fn decide_submit(found: Found, seal: Seal, secret: Secret) -> Result<Joined, HouseErr>
+    requires found { IfSome found.auction IsAuction }
+    requires own { IfSome found.auction (λ auction. auction.id ≡ found.id) }
     requires seal { IsSeal seal }
     requires secret { IsSecret secret }
-    ensures decided { (id : List ℕ)
-        → Decides (λ joined. record {
-          reply = Position joined.position;
-          kept = Some joined.auction;
-        }) result (step_at (Submit id seal secret) found) }
+    ensures decided { Decides (λ joined. record {
+      reply = Position joined.position;
+      kept = Some joined.auction;
+    }) result (step_at (Submit found.id seal secret) found.auction) }
     ensures right { IfOk result (λ joined. IsAuction joined.auction) }
-    ensures id { (id : List ℕ) → IfSome found (λ auction. auction.id ≡ id)
-        → IfOk result (λ joined. joined.auction.id ≡ id) }
+    ensures id { IfOk result (λ joined. joined.auction.id ≡ found.id) }
     ensures inside { IsErrOf result HouseErr.KeeperFailed → ⊥ }
-    ensures memory { (id : List ℕ) → IsOk result ⊎ IsErrOf result HouseErr.NoMemory
-        → refusal_of (Submit id seal secret) found ≡ None }
+    ensures memory { IsOk result ⊎ IsErrOf result HouseErr.NoMemory
+        → refusal_of (Submit found.id seal secret) found.auction ≡ None }
 {
-    let mut auction = found.ok_or(HouseErr::Unknown)?;
+    let mut auction = found.auction.ok_or(HouseErr::Unknown)?;
     check_taking(&auction.phase)?;
     if let Some(refusal) = auction.refusal(&seal, &secret) {
         return Err(HouseErr::from(refusal));

@@ -1,6 +1,6 @@
 //! `show`: how an auction stands.
 
-ghost use Rattle.std.specs.Prelude.{◌≡◌, ℕ, IfSome, IsErrOf, List};
+ghost use Rattle.std.specs.Prelude.{◌≡◌, IfSome, IsErrOf};
 ghost use Rattle.vk_keeper.specs.Auctions.{IsAuction};
 ghost use Rattle.vk_house.specs.Commands.{Show};
 ghost use Rattle.vk_house.specs.Deciding.{Decides};
@@ -8,6 +8,7 @@ ghost use Rattle.vk_house.specs.Replies.{standing_of, phase_name, reserve_of, St
 ghost use Rattle.vk_house.specs.Steps.{step_at};
 
 use crate::errors::HouseErr;
+use crate::found::Found;
 use vk_keeper::{Auction, Phase};
 
 /// How far an auction has come.
@@ -76,15 +77,14 @@ impl PhaseName {
 
 /// What `show` answers of the auction that was found. It takes no memory.
 #[tactic(auto, unfolding(crate::specs::Steps::step_at, vk_keeper::specs::Joining::first_of))]
-pub fn decide_show(found: Option<Auction>) -> Result<Standing, HouseErr>
-    requires { IfSome found IsAuction }
-    ensures decided { (id : List ℕ)
-        → Decides (λ standing. record { reply = Stands standing; kept = None }) result
-        (step_at (Show id) found) }
+pub fn decide_show(found: Found) -> Result<Standing, HouseErr>
+    requires { IfSome found.auction IsAuction }
+    ensures decided { Decides (λ standing. record { reply = Stands standing; kept = None }) result
+        (step_at (Show found.id) found.auction) }
     ensures inside { IsErrOf result HouseErr.KeeperFailed → ⊥ }
     ensures memory { IsErrOf result HouseErr.NoMemory → ⊥ }
 {
-    let auction = found.ok_or(HouseErr::Unknown)?;
+    let auction = found.auction.ok_or(HouseErr::Unknown)?;
     let standing = Standing::of(&auction);
     Ok(standing)
 }

@@ -1,6 +1,6 @@
 //! `prove` and `answer`: the work on an auction whose seals are taken.
 
-ghost use Rattle.std.specs.Prelude.{◌≡◌, ◌≤◌, ◌⊎◌, ℕ, IfSome, IfOk, IsOk, IsErrOf, IsSome, is_some, List, None, Some, length};
+ghost use Rattle.std.specs.Prelude.{◌≡◌, ◌≤◌, ◌⊎◌, IfSome, IfOk, IsOk, IsErrOf, IsSome, is_some, None, Some, length};
 ghost use Rattle.std.specs.Result.{result_err};
 ghost use Rattle.vk_reply.specs.Values.{IsChallenge};
 ghost use Rattle.vk_keeper.specs.Auctions.{IsAuction, seed_of, challenge_of};
@@ -11,6 +11,7 @@ ghost use Rattle.vk_house.specs.Refusals.{refusal_of};
 ghost use Rattle.vk_house.specs.Steps.{step_at, phase_proved, phase_answered};
 
 use crate::errors::HouseErr;
+use crate::found::Found;
 use crate::standing::PhaseName;
 use std::alloc::Global;
 use vk_job::Job;
@@ -88,20 +89,18 @@ fn proved_phase(phase: &Phase, seed: &[u8; 32]) -> Option<Phase>
 /// What `prove` answers and keeps, by what was found under the id. A refusal, a dry seed too, is
 /// told whatever memory there is.
 #[tactic(auto, unfolding(crate::specs::Steps::step_at, vk_keeper::specs::Joining::first_of))]
-pub fn decide_prove(
-    alloc: Global,
-    found: Option<Auction>,
-    seed: &[u8; 32],
-) -> Result<Decision, HouseErr>
-    requires { IfSome found IsAuction }
-    ensures decided { (id : List ℕ) → Decides step_of result (step_at (Prove id seed.now) found) }
+pub fn decide_prove(alloc: Global, found: Found, seed: &[u8; 32]) -> Result<Decision, HouseErr>
+    requires found { IfSome found.auction IsAuction }
+    requires own { IfSome found.auction (λ auction. auction.id ≡ found.id) }
+    ensures decided { Decides step_of result
+        (step_at (Prove found.id seed.now) found.auction) }
     ensures inside { IsErrOf result HouseErr.KeeperFailed → ⊥ }
-    ensures on { IfOk result (IsDecisionOn found) }
+    ensures on { IfOk result (IsDecisionOn found.id) }
     ensures seed { IfOk result (λ decision. seed_of decision.job.auction.phase ≡ Some seed.now) }
-    ensures memory { (id : List ℕ) → IsOk result ⊎ IsErrOf result HouseErr.NoMemory
-        → refusal_of (Prove id seed.now) found ≡ None }
+    ensures memory { IsOk result ⊎ IsErrOf result HouseErr.NoMemory
+        → refusal_of (Prove found.id seed.now) found.auction ≡ None }
 {
-    let auction = found.ok_or(HouseErr::Unknown)?;
+    let auction = found.auction.ok_or(HouseErr::Unknown)?;
     check_seals(&auction)?;
     check_seed(&auction, seed)?;
     let phase = proved_phase(&auction.phase, seed);
@@ -198,21 +197,22 @@ fn answered_phase(
 #[tactic(auto, unfolding(crate::specs::Steps::step_at, vk_keeper::specs::Joining::first_of))]
 pub fn decide_answer(
     alloc: Global,
-    found: Option<Auction>,
+    found: Found,
     challenge: &Challenge,
 ) -> Result<Decision, HouseErr>
-    requires found { IfSome found IsAuction }
+    requires found { IfSome found.auction IsAuction }
+    requires own { IfSome found.auction (λ auction. auction.id ≡ found.id) }
     requires challenge { IsChallenge challenge.now }
-    ensures decided { (id : List ℕ)
-        → Decides step_of result (step_at (Answer id challenge.now) found) }
+    ensures decided { Decides step_of result
+        (step_at (Answer found.id challenge.now) found.auction) }
     ensures inside { IsErrOf result HouseErr.KeeperFailed → ⊥ }
-    ensures on { IfOk result (IsDecisionOn found) }
+    ensures on { IfOk result (IsDecisionOn found.id) }
     ensures answered { IfOk result
         (λ decision. challenge_of decision.job.auction.phase ≡ Some challenge.now) }
-    ensures memory { (id : List ℕ) → IsOk result ⊎ IsErrOf result HouseErr.NoMemory
-        → IsDryAtMost (refusal_of (Answer id challenge.now) found) }
+    ensures memory { IsOk result ⊎ IsErrOf result HouseErr.NoMemory
+        → IsDryAtMost (refusal_of (Answer found.id challenge.now) found.auction) }
 {
-    let auction = found.ok_or(HouseErr::Unknown)?;
+    let auction = found.auction.ok_or(HouseErr::Unknown)?;
     check_proved(&auction.phase)?;
     check_length(&auction, challenge)?;
     let auction = check_challenge(auction, challenge)?;

@@ -9,6 +9,7 @@ use Rattle.sqlite_schema.specs.declared.command.Command.TheVariants.{Select}
 use Rattle.sqlite_sql.specs.Term.{Env, lit, col}
 use Rattle.sqlite_sql.specs.Program.{overlay}
 use Rattle.sqlite_sql.specs.Query.{Output, output, page, IsAnswer, matches_as, inner, counted, end}
+use Rattle.sqlite.specs.Effect.{Database}
 use Rattle.sqlite.specs.Query.{Query}
 use Rattle.sqlite.specs.Store.{Ghosts}
 use Rattle.sqlite.specs.Held.{Held, state}
@@ -224,24 +225,34 @@ module _ {S : Type 0} (g : Ghosts S) where
       refused_by old new why Blank alone (λ found. is_blank old.schema found none)
       (λ mid. stopped_blank (record old { in_transaction = true }) mid why)
 
-  pub first_refused : (old new : Held S) (why : OpenErr) (rowid : Value)
-      → old.in_transaction ≡ false → IsFirstStore (state g old).now
-      → (state g old).now.trees 0 ≡ (rowid ∷ Int (pos 1) ∷ []) ∷ []
+  -- such a content, whose number stands in one row, is refused by its connection alone
+  abbrev pub IsRefusedAlone : (Database → Type 0) → ℕ → Type 0
+  IsRefusedAlone Holds number = (old new : Held S) (why : OpenErr) (rowid : Value)
+      → old.in_transaction ≡ false → Holds (state g old).now
+      → (state g old).now.trees 0 ≡ (rowid ∷ Int (pos number) ∷ []) ∷ []
       → IsRefusedFor g old new why → IsOfConnection g why
-  first_refused old new why rowid alone store one =
-      let begun = record old { in_transaction = true } in
-      refused_by old new why First alone (λ found. is_first old.schema found store.schema)
-      (λ mid. stopped_first begun mid why
-      (λ next rows query. ap number_of (number_shown first_store_schema 1 first_query first_plain
-      (state g begun) (state g next) rows rowid store.schema one query)))
 
-  pub second_refused : (old new : Held S) (why : OpenErr) (rowid : Value)
-      → old.in_transaction ≡ false → IsStore (state g old).now
-      → (state g old).now.trees 0 ≡ (rowid ∷ Int (pos 2) ∷ []) ∷ []
-      → IsRefusedFor g old new why → IsOfConnection g why
-  second_refused old new why rowid alone store two =
+  -- by the layout that the schema has, whose number the query shows
+  refused_at : (layout : Layout) (schema : Schema) (number : ℕ) → IsNumberQuery schema
+      → IsPlain (understood schema number_query)
+      → number_of ((Int (pos 1) ∷ Int (pos number) ∷ []) ∷ []) ≡ Ok number
+      → ((it : Schema) (found : Layout) → it ≡ schema → HasLayout found it → found ≡ layout)
+      → ((begun mid : Held S) (why : OpenErr) → ShowsOf number begun
+      → StopsFrom g begun mid why layout → IsOfConnection g why)
+      → IsRefusedAlone (λ db. db.schema ≡ schema) number
+  refused_at layout schema number is plain read own stops old new why rowid alone has one =
       let begun = record old { in_transaction = true } in
-      refused_by old new why Second alone (λ found. is_second old.schema found store.schema)
-      (λ mid. stopped_second begun mid why
-      (λ next rows query. ap number_of (number_shown store_schema 2 second_query second_plain
-      (state g begun) (state g next) rows rowid store.schema two query)))
+      refused_by old new why layout alone (λ found. own old.schema found has)
+      (λ mid. stops begun mid why
+      (λ next rows query. ap number_of (number_shown schema number is plain (state g begun)
+      (state g next) rows rowid has one query) ∙ read))
+
+  pub first_refused : IsRefusedAlone IsFirstStore 1
+  first_refused old new why rowid alone store =
+      refused_at First first_store_schema 1 first_query first_plain refl is_first stopped_first old
+      new why rowid alone store.schema
+
+  pub second_refused : IsRefusedAlone IsStore 2
+  second_refused old new why rowid alone store =
+      refused_at Second store_schema 2 second_query second_plain refl is_second stopped_second old
+      new why rowid alone store.schema

@@ -1,7 +1,6 @@
 ghost use Rattle.std.specs.Prelude.{◌≡◌, ◌≤◌, [], length, IfOk};
 ghost use Rattle.vk_reply.specs.Values.{IsChallenge};
-ghost use Rattle.vk_keeper.specs.Auctions.{IsAuction};
-ghost use Rattle.vk_keeper.specs.First.{IsFirstAuction};
+ghost use Rattle.vk_keeper.specs.Common.{IsAuction, IsFirstAuction};
 
 use super::auctions::joined;
 use std::alloc::Global;

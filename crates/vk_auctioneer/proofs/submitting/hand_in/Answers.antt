@@ -6,7 +6,7 @@ use Rattle.vk_auctioneer.proofs.submitting.hand_in.Goals as goal
 
 pub returns : goal.returns
 returns g c =
-    asks_alone g.K.Keeper.get_gives (Submit c.args.id.now c.args.seal c.args.secret) Position
-    c.submit-answer.result c.handed_in-said.result (search rules)
-    (c.handed_in-said.ensures.said c.args.id.now c.args.seal c.args.secret refl)
+    asks_alone g.K.Keeper.get_gives (Submit c.args.id.now c.args.row.seal c.args.row.secret)
+    Position c.submit-answer.result c.handed_in-said.result (search rules)
+    (c.handed_in-said.ensures.said c.args.id.now c.args.row.seal c.args.row.secret refl)
     (c.handed_in-said.ensures.causes _ _)

@@ -7,8 +7,8 @@ use Rattle.vk_auctioneer.proofs.submitting.submit.Goals as goal
 pub returns-in-Ok-clause-acts : goal.returns-in-Ok-clause-acts
 returns-in-Ok-clause-acts g c =
     read_acts (λ kept row. asked no_file kept (Submit c.args.id.now row.seal row.secret))
-    (λ files. row_in files c.args.seal.now c.args.secret.now)
-    (record { seal = c.in-Ok.read.0; secret = c.in-Ok.read.1 })
+    (λ files. row_in files c.args.names.seal.now c.args.names.secret.now)
+    c.in-Ok.row
     (g.S.Shelf.held c.args.shelf.now) (g.S.Shelf.held c.row.new.shelf) _ _ _
     c.hand_in-said.result
     c.in-Ok.ensures.shelf.held c.in-Ok.ensures.modelled

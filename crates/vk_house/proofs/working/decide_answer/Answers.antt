@@ -6,9 +6,10 @@ use Rattle.vk_house.proofs.Deciding.{answer_step, answered_one, answer_dry_at_mo
 use Rattle.vk_house.proofs.working.decide_answer.Goals as goal
 
 pub returns-clause-decided : goal.returns-clause-decided
-returns-clause-decided c = λ id.
+returns-clause-decided c =
     subst (Decides step_of c.work_in-decision.result)
-    (answer_step c.in_ok-auction-2.auction c.args.found c.in_ok-phase.phase id c.args.challenge.now
+    (answer_step c.in_ok-auction-2.auction c.args.found.auction c.in_ok-phase.phase
+    c.args.found.id c.args.challenge.now
     (search rules) (search rules) (search rules) (search rules) c.in_ok-phase.ensures)
     c.work_in-decision.ensures.decided
 
@@ -21,11 +22,13 @@ returns-clause-answered c =
     c.work_in-decision.ensures.job
 
 pub returns-clause-memory : goal.returns-clause-memory
-returns-clause-memory c = λ id is.
-    answer_dry_at_most c.in_ok-auction-2.auction c.args.found id c.args.challenge.now
+returns-clause-memory c = λ is.
+    answer_dry_at_most c.in_ok-auction-2.auction c.args.found.auction c.args.found.id
+    c.args.challenge.now
     (search rules) (search rules) (search rules) (search rules)
 
 pub returns-in_err-phase-clause-memory : goal.returns-in_err-phase-clause-memory
-returns-in_err-phase-clause-memory c = λ id is.
-    answer_dry_at_most c.in_ok-auction-2.auction c.args.found id c.args.challenge.now
+returns-in_err-phase-clause-memory c = λ is.
+    answer_dry_at_most c.in_ok-auction-2.auction c.args.found.auction c.args.found.id
+    c.args.challenge.now
     (search rules) (search rules) (search rules) (search rules)
