@@ -4,16 +4,15 @@ use Rattle.std.specs.Prelude.{◌⊎◌}
 use Rattle.vk_io.specs.Files.{Files}
 use Rattle.vk_keeper.specs.Ledgers.{Ledger}
 use Rattle.vk_words.specs.Commands.{CommandWords, Audit, Claim, command_words}
+use Rattle.vk_words.specs.Audits.{AuditWords}
 use Rattle.vk_words.specs.Audits as audits
 use Rattle.vk_words.specs.Claims as claims
 use Rattle.vk_words.specs.Names.{ExtractWords}
 use Rattle.vk_effect.specs.Effects.{Outside, SaidValue, outside, puts, says, stores}
 use Rattle.vk_effect.specs.Ends.{Done}
 use Rattle.vk_audit.specs.Answers.{TellsConfrontation, TellsExtraction, TellsReport, TellsVerdict}
-use Rattle.vk_audit.specs.Confrontations.{confront_said}
+use Rattle.vk_audit.specs.Audits.{audit_said}
 use Rattle.vk_audit.specs.Extractions.{extract_said}
-use Rattle.vk_audit.specs.Reports.{report_said}
-use Rattle.vk_audit.specs.Verdicts.{verify_said}
 use Rattle.vk_audit.specs.Statuses.{AcceptsTwoFiles, BindsSecret, IsExtracted, IsReported, IsSame, IsVerified}
 use Rattle.vk_audit.proofs.Binding.{binds_exactly, tells_confrontations}
 use Rattle.vk_audit.proofs.Extracting.{extracts_exactly, tells_extractions, tells_same_exactly}
@@ -77,6 +76,19 @@ module _ (files : Files) (ledger : Option Ledger) (words : List (List ℕ)) (sta
     tells = λ _ _. from_said (said names) (Tells names) (ends names is) (tells names);
   }
 
+  -- of an auditor's command
+  audit_says : {N : Type 0} (order : N → AuditWords)
+      (Means Tells : N → ℕ → Option (List ℕ) → Type 0)
+      → ((names : N) → let said = audit_said files (order names) in
+      Means names said.status (puts said.text old))
+      → ((names : N) → let said = audit_said files (order names) in
+      Tells names said.status (puts said.text old))
+      → (names : N) → command_words words ≡ Some (Audit (order names))
+      → Says status (Means names status new.taken) (Tells names status new.taken)
+  audit_says order Means Tells =
+      each_says (λ names. Audit (order names)) (λ names. audit_said files (order names)) Means Tells
+      (λ names. done_is (Audit (order names)))
+
   pub ended_headline : Headline files words status old new.taken
   ended_headline =
       each_puts (λ names. Audit (audits.Extract names)) (extract_said files) (AcceptsTwoFiles files)
@@ -93,25 +105,17 @@ module _ (files : Files) (ledger : Option Ledger) (words : List (List ℕ)) (sta
 
   pub ended_audits : Audits files words status old new.taken
   ended_audits = record {
-    verify = each_says (λ names. Audit (audits.Verify names)) (verify_said files)
-        (λ names n _. IsVerified files names n)
-        (λ names n text. TellsVerdict files names n old text)
-        (λ names. done_is (Audit (audits.Verify names))) (verifies_exactly files)
+    verify = audit_says audits.Verify (λ names n _. IsVerified files names n)
+        (λ names n text. TellsVerdict files names n old text) (verifies_exactly files)
         (λ names. tells_verdicts files names old);
-    extract = each_says (λ names. Audit (audits.Extract names)) (extract_said files)
-        (λ names n _. IsSame files names n)
-        (λ names n text. TellsExtraction files names n old text)
-        (λ names. done_is (Audit (audits.Extract names))) (tells_same_exactly files)
+    extract = audit_says audits.Extract (λ names n _. IsSame files names n)
+        (λ names n text. TellsExtraction files names n old text) (tells_same_exactly files)
         (λ names. tells_extractions files names old);
-    confront = each_says (λ names. Audit (audits.Confront names)) (confront_said files)
-        (λ names n text. BindsSecret files names n old text)
+    confront = audit_says audits.Confront (λ names n text. BindsSecret files names n old text)
         (λ names n text. TellsConfrontation files names n old text)
-        (λ names. done_is (Audit (audits.Confront names)))
         (λ names. binds_exactly files names old) (λ names. tells_confrontations files names old);
-    report = each_says (λ board. Audit (audits.Report board)) (report_said files)
-        (λ board n text. IsReported files board n old text)
+    report = audit_says audits.Report (λ board n text. IsReported files board n old text)
         (λ board n text. TellsReport files board n old text)
-        (λ board. done_is (Audit (audits.Report board)))
         (λ board. reports_exactly files board old) (λ board. tells_reports files board old);
   }
 

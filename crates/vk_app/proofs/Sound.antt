@@ -5,14 +5,18 @@ use Rattle.std.specs.Prelude.{◌⊎◌, codes, if◌then◌else◌, length, opt
 use Rattle.vk_residue.specs.Steps.{◌>>?◌}
 use Rattle.vk_io.specs.Files.{Files, Modelled}
 use Rattle.vk_keeper.specs.Ledgers.{Ledger}
+use Rattle.vk_reply.specs.declared.challenge.Challenge.{Challenge}
+use Rattle.vk_reply.specs.Texts.{challenge_text}
 use Rattle.vk_bids.specs.FileHeadline.{IsClashOf}
-use Rattle.vk_bids.specs.Headline.{IsExtraction, IsExtractionClash}
+use Rattle.vk_bids.specs.Headline.{IsExtraction, IsExtractionClash, differing}
+use Rattle.vk_bids.specs.Soundness.{BeginsWithFront, TellsBids, TellsTwoOpenings}
 use Rattle.vk_bids.specs.Texts.{clash_text, extraction_text}
 use Rattle.vk_bids.proofs.Soundness.{begins_with_front, bids_are_told, clash_is_told}
 use Rattle.vk_claim.specs.Extraction.{IsClaimOpened}
 use Rattle.vk_claim.specs.Printing.{claim_extraction_text}
 use Rattle.vk_claims.specs.Circuits.{admitted_plan, claimed}
 use Rattle.vk_claims.specs.Statuses.{AcceptsTwoClaims, IsClaimExtracted}
+use Rattle.vk_claims.specs.Soundness.{BeginsWithClaim, TellsValues}
 use Rattle.vk_claims.proofs.Soundness.{begins_with_claim, values_are_told}
 use Rattle.vk_claims.proofs.Soundness as opened
 use Rattle.vk_words.specs.Commands.{CommandWords, Audit, Claim, command_words}
@@ -21,9 +25,10 @@ use Rattle.vk_words.specs.Claims as claims
 use Rattle.vk_words.specs.Names.{AttemptWords, ExtractWords, VerifyWords, attempt_at, extract_in, is_name, verify_in}
 use Rattle.vk_words.specs.Table.{commands, row_of}
 use Rattle.vk_effect.specs.Effects.{Outside, outside, stores}
+use Rattle.vk_audit.specs.Inputs.{HoldsFiles}
 use Rattle.vk_audit.specs.Statuses.{AcceptsTwoFiles, IsExtracted, PutsText}
 use Rattle.vk_app.specs.Commands.{DoesWork, Work, work_of, work_on}
-use Rattle.vk_app.specs.Promises.{ClaimExtractIsComplete, ClaimExtractIsSound, EndsWhereAccepted, ExtractIsComplete, ExtractIsSound, Prints, PrintsBidsOf, PrintsValuesOf, PutsExactly}
+use Rattle.vk_app.specs.Promises.{ClaimExtractIsComplete, ClaimExtractIsSound, EndsWhereAccepted, ExtractIsComplete, ExtractIsSound, Prints, PrintsOf, PutsExactly}
 use Rattle.vk_app.proofs.Audited.{ended_claim_headline, ended_headline}
 
 -- ---- words
@@ -158,52 +163,56 @@ not_stopped status (inl zero_is) = (λ six_is. omega arith, λ nine_is. omega ar
 not_stopped status (inr three_is) = (λ six_is. omega arith, λ nine_is. omega arith)
 
 module _ (files : Files) (status : ℕ) (old new : Option (List ℕ)) where
+  -- where files that are held begin so, and are such challenges
+  printed_of : {F : Type 0} {Begins : List ℕ → F → Type 0} {id_of : F → List ℕ}
+      {Tells : F → List ℕ → List ℕ → Type 0} {names : ExtractWords}
+      (held : HoldsFiles files names) (front : F) (first second : Challenge)
+      → Begins held.file_bytes front → held.first.challenge_bytes ≡ challenge_text first
+      → held.second.challenge_bytes ≡ challenge_text second
+      → (status ≡ 0 → Prints (Tells front (differing 1 first.bits second.bits)) old new)
+      → (status ≡ 3 → Prints (TellsTwoOpenings held.file_bytes (id_of front)) old new)
+      → PrintsOf Begins id_of Tells files names.board names.first.challenge names.second.challenge
+      status old new
+  printed_of held front first second begins first_is second_is found clash = record {
+    file = held.file_bytes;
+    front = front;
+    first = first;
+    second = second;
+    file_is = held.file_is.is;
+    begins = begins;
+    first_is = held.first.challenge_is.is ∙ ap (λ bytes. Some bytes) first_is;
+    second_is = held.second.challenge_is.is ∙ ap (λ bytes. Some bytes) second_is;
+    found = found;
+    clash = clash;
+  }
+
   bids_printed : (names : ExtractWords) (accepted : AcceptsTwoFiles files names)
       → IsExtracted accepted.two status old new
-      → PrintsBidsOf files names.board names.first.challenge names.second.challenge status old new
+      → PrintsOf BeginsWithFront (λ front. front.head.auction) TellsBids files names.board
+      names.first.challenge names.second.challenge status old new
   bids_printed names accepted extracted =
-      let held = accepted.held in
       let two = accepted.two in
-      record {
-        file = held.file_bytes;
-        front = two.first.front;
-        first = two.first.behind.challenge;
-        second = two.second.behind.challenge;
-        board_is = held.file_is.is;
-        begins = begins_with_front two.first;
-        first_is = held.first.challenge_is.is
-            ∙ ap (λ bytes. Some bytes) two.first.behind.challenge_is.0;
-        second_is = held.second.challenge_is.is
-            ∙ ap (λ bytes. Some bytes) two.second.behind.challenge_is.0;
-        bids = λ zero_is. prints_as (IsExtraction two) extraction_text _ (bids_are_told two) old new
-            (done_is _ _ status extracted zero_is);
-        clash = λ three_is. prints_as (IsExtractionClash two) clash_text _ (clash_is_told two) old
-            new (clash_is _ _ status extracted three_is);
-      }
+      printed_of accepted.held two.first.front two.first.behind.challenge
+      two.second.behind.challenge (begins_with_front two.first) two.first.behind.challenge_is.0
+      two.second.behind.challenge_is.0
+      (λ zero_is. prints_as (IsExtraction two) extraction_text _ (bids_are_told two) old new
+      (done_is _ _ status extracted zero_is))
+      (λ three_is. prints_as (IsExtractionClash two) clash_text _ (clash_is_told two) old new
+      (clash_is _ _ status extracted three_is))
 
   values_printed : (names : ExtractWords) (accepted : AcceptsTwoClaims files names)
       → IsClaimExtracted accepted.two status old new
-      → PrintsValuesOf files names.board names.first.challenge names.second.challenge status old new
+      → PrintsOf BeginsWithClaim (λ front. front.head.auction) TellsValues files names.board
+      names.first.challenge names.second.challenge status old new
   values_printed names accepted extracted =
-      let held = accepted.held in
       let two = accepted.two in
-      record {
-        file = held.file_bytes;
-        front = two.first.front.front;
-        first = two.first.behind.challenge;
-        second = two.second.behind.challenge;
-        claim_is = held.file_is.is;
-        begins = begins_with_claim two;
-        first_is = held.first.challenge_is.is
-            ∙ ap (λ bytes. Some bytes) two.first.behind.challenge_is.0;
-        second_is = held.second.challenge_is.is
-            ∙ ap (λ bytes. Some bytes) two.second.behind.challenge_is.0;
-        values = λ zero_is. prints_as (IsClaimOpened admitted_plan claimed two)
-            claim_extraction_text _ (values_are_told two) old new
-            (done_is _ _ status extracted zero_is);
-        clash = λ three_is. prints_as (IsClashOf two) clash_text _
-            (opened.clash_is_told two) old new (clash_is _ _ status extracted three_is);
-      }
+      printed_of accepted.held two.first.front.front two.first.behind.challenge
+      two.second.behind.challenge (begins_with_claim two) two.first.behind.challenge_is.0
+      two.second.behind.challenge_is.0
+      (λ zero_is. prints_as (IsClaimOpened admitted_plan claimed two) claim_extraction_text _
+      (values_are_told two) old new (done_is _ _ status extracted zero_is))
+      (λ three_is. prints_as (IsClashOf two) clash_text _ (opened.clash_is_told two) old new
+      (clash_is _ _ status extracted three_is))
 
 -- ---- at its end
 

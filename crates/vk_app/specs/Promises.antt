@@ -50,32 +50,33 @@ OverFiles Promised held words status old new =
 abbrev pub Prints : (List ℕ → Type 0) → (old new : Option (List ℕ)) → Type 0
 Prints IsSuch = Modelled (λ before after. (text : List ℕ) × (after ≡ before ++ text) × IsSuch text)
 
--- the file of a board begins with this front, and two other files are challenges. With status 0,
--- what was printed is bids of just the lanes whose bits in the challenges differ: they are below
--- 2^width, their printed halves open the board's digests in that lane, and the sale that they make
--- under the board's reserve is the one that it publishes. With status 3 it is two openings of one
--- commitment of the auction, whose digest stands in the board's file
-pub record PrintsBidsOf (files : Files) (board challenge other : List ℕ) (status : ℕ)
-    (old new : Option (List ℕ)) : Type 0 where
+-- a file begins with this front, and two other files are challenges. With status 0, what was
+-- printed is told of the front and of just the lanes whose bits in the challenges differ. With
+-- status 3 it is two openings of one commitment of the auction, whose digest stands in the file
+pub record PrintsOf {F : Type 0} (Begins : List ℕ → F → Type 0) (id_of : F → List ℕ)
+    (Tells : F → (lanes text : List ℕ) → Type 0) (files : Files)
+    (name challenge other : List ℕ) (status : ℕ) (old new : Option (List ℕ)) : Type 0 where
   pub file : List ℕ
-  pub front : Front
+  pub front : F
   pub first : Challenge
   pub second : Challenge
-  pub board_is : get files board ≡ Some file
-  pub begins : BeginsWithFront file front
+  pub file_is : get files name ≡ Some file
+  pub begins : Begins file front
   pub first_is : get files challenge ≡ Some (challenge_text first)
   pub second_is : get files other ≡ Some (challenge_text second)
-  pub bids : status ≡ 0 → Prints (TellsBids front (differing 1 first.bits second.bits)) old new
-  pub clash : status ≡ 3 → Prints (TellsTwoOpenings file front.head.auction) old new
+  pub found : status ≡ 0 → Prints (Tells front (differing 1 first.bits second.bits)) old new
+  pub clash : status ≡ 3 → Prints (TellsTwoOpenings file (id_of front)) old new
 
 -- soundness: where `extract` ends with status 0 or 3, whatever the files are and whoever made them,
--- what it printed is true of the board
+-- what it printed is true of the board. With status 0 that is bids of those lanes: they are below
+-- 2^width, their printed halves open the board's digests in that lane, and the sale that they make
+-- under the board's reserve is the one that it publishes
 abbrev pub ExtractIsSound : Files → List (List ℕ) → ℕ → Option (List ℕ) → Option (List ℕ) → Type 0
 ExtractIsSound files words status old new =
     (board challenge reply other second : List ℕ)
     → words ≡ codes "extract" ∷ board ∷ challenge ∷ reply ∷ other ∷ second ∷ []
-    → (status ≡ 0) ⊎ (status ≡ 3)
-    → PrintsBidsOf files board challenge other status old new
+    → (status ≡ 0) ⊎ (status ≡ 3) → PrintsOf BeginsWithFront (λ front. front.head.auction) TellsBids
+    files board challenge other status old new
 
 -- completeness: where the words are this one and five names, each of 1 to 255 bytes, and both
 -- replies are accepted for different challenges, the status is 0 or 3
@@ -91,29 +92,15 @@ abbrev pub ExtractIsComplete : Files → List (List ℕ) → (status : ℕ) → 
 ExtractIsComplete files words status old new =
     EndsWhereAccepted (codes "extract") (AcceptsTwoFiles files) words status
 
--- the same of a claim file: with status 0, what was printed is values of just the lanes whose bits
--- differ, whose printed halves open the file's digests in that lane, and of which its claim holds
-pub record PrintsValuesOf (files : Files) (claim challenge other : List ℕ) (status : ℕ)
-    (old new : Option (List ℕ)) : Type 0 where
-  pub file : List ℕ
-  pub front : ClaimFront
-  pub first : Challenge
-  pub second : Challenge
-  pub claim_is : get files claim ≡ Some file
-  pub begins : BeginsWithClaim file front
-  pub first_is : get files challenge ≡ Some (challenge_text first)
-  pub second_is : get files other ≡ Some (challenge_text second)
-  pub values : status ≡ 0
-      → Prints (TellsValues front (differing 1 first.bits second.bits)) old new
-  pub clash : status ≡ 3 → Prints (TellsTwoOpenings file front.head.auction) old new
-
+-- of a claim file that is values of those lanes, whose printed halves open the file's digests in
+-- that lane, and of which its claim holds
 abbrev pub ClaimExtractIsSound : Files → List (List ℕ) → (status : ℕ)
     → (old new : Option (List ℕ)) → Type 0
 ClaimExtractIsSound files words status old new =
     (claim challenge reply other second : List ℕ)
     → words ≡ codes "claim-extract" ∷ claim ∷ challenge ∷ reply ∷ other ∷ second ∷ []
-    → (status ≡ 0) ⊎ (status ≡ 3)
-    → PrintsValuesOf files claim challenge other status old new
+    → (status ≡ 0) ⊎ (status ≡ 3) → PrintsOf BeginsWithClaim (λ front. front.head.auction)
+    TellsValues files claim challenge other status old new
 
 abbrev pub ClaimExtractIsComplete : Files → List (List ℕ) → (status : ℕ)
     → (old new : Option (List ℕ)) → Type 0

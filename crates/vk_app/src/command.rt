@@ -1,16 +1,10 @@
 //! The top call.
 
 ghost use Rattle.std.specs.Prelude.{◌≡◌, ◌≢◌, ◌⊎◌, ℕ, None, IfSome, IfOk, IsErrOf, Some, map, option_map, string_bytes};
-ghost use Rattle.vk_io.specs.Faults.{Rose};
-ghost use Rattle.vk_io.specs.Files.{Modelled};
-ghost use Rattle.vk_judge.specs.Wanting.{MemoryWasWanting};
+ghost use Rattle.vk_judge.specs.Common.{MemoryWasWanting, Modelled, Rose};
 ghost use Rattle.vk_keeper.specs.Ledgers.{Ledger};
-ghost use Rattle.vk_words.specs.Commands.{ClaimSample, Coin, IsCommand, Seal, command_seen, command_words};
+ghost use Rattle.vk_words.specs.Common.{ClaimSample, Coin, CoinWords, IsCommand, Seal, SealWords, audit_seen, claim_order_seen, command_seen, command_words};
 ghost use Rattle.vk_words.specs.declared.claim.Kind.TheVariants.{Matching};
-ghost use Rattle.vk_words.specs.Audits.{audit_seen};
-ghost use Rattle.vk_words.specs.Claims.{claim_order_seen};
-ghost use Rattle.vk_words.specs.Coins.{CoinWords};
-ghost use Rattle.vk_words.specs.Orders.{SealWords};
 ghost use Rattle.vk_effect.specs.Effects.{IsCommandEnd, IsEnd, outside, stores};
 ghost use Rattle.vk_effect.specs.Ends.{Acts};
 ghost use Rattle.vk_house.specs.Once.{KeepsAnswers};
@@ -183,16 +177,12 @@ fn perform<S: Shelf, K: Keeper + Drop, W: Sink>(
         (K.Keeper.faults keeper.old) (K.Keeper.faults keeper.new) (W.Sink.faults out.old)
         (W.Sink.faults out.new) }
 {
-    match command_of(words) {
-        Some(command) => {
-            let status = perform_command(alloc, command, shelf, keeper, out)?;
-            Ok(status)
-        }
-        None => {
-            usage(out)?;
-            Ok(2)
-        }
-    }
+    let Some(command) = command_of(words) else {
+        usage(out)?;
+        return Ok(2);
+    };
+    let status = perform_command(alloc, command, shelf, keeper, out)?;
+    Ok(status)
 }
 
 /// Does what the words say over the shelf and the keeper, prints to the sink, and answers the

@@ -1,7 +1,6 @@
 //! What is answered to words that are no command.
 
-ghost use Rattle.vk_io.specs.Faults.{Causes};
-ghost use Rattle.vk_io.specs.Files.{Modelled, Takes};
+ghost use Rattle.vk_judge.specs.Common.{Causes, Modelled, Takes};
 ghost use Rattle.vk_words.specs.Usage.{usage_text};
 
 use vk_io::{OutsideErr, Sink};

@@ -21,7 +21,7 @@ use Rattle.vk_audit.specs.Answers.{AnswerHolds, TellsAnswer}
 use Rattle.vk_audit.specs.Inputs.{CanBeRead, HoldsFiles, extract_inputs, verify_inputs}
 use Rattle.vk_audit.specs.Verdicts.{PartNames, answer_said, name_in, name_of, unread_said}
 use Rattle.vk_audit.proofs.Telling.{tells}
-use Rattle.vk_audit.proofs.Inputs.{all_read, begun_unread, fault_of, first_unread, never_none, unread_found, unread_shown}
+use Rattle.vk_audit.proofs.Inputs.{NamesUnread, all_read, begun_unread, fault_of, first_unread, never_none, unread_found, unread_shown}
 
 -- ---- three files
 
@@ -37,10 +37,8 @@ module _ {X : Type 0} (whole : Rest → Rest → Rest → X) (files : Files) (na
   of_challenge board = begun_file part.Challenge (get files names.attempt.challenge) >>= of_reply
       board
 
-  pub attempt_unread : (unread : Part × Bool)
-      → first_unread files (name_in names) verify_parts ≡ Some unread
-      → of_attempt whole files names.board names.attempt.challenge names.attempt.reply
-      ≡ Err (fault_of unread)
+  pub attempt_unread : NamesUnread files (name_in names) verify_parts
+      (of_attempt whole files names.board names.attempt.challenge names.attempt.reply)
   attempt_unread unread is =
       begun_unread part.Board _ of_challenge unread (λ board rest.
       begun_unread part.Challenge _ (of_reply board) unread (λ challenge rest.
@@ -95,10 +93,9 @@ module _ {X : Type 0} (whole : Rest → Rest → Rest → Rest → Rest → X) (
   challenge_then board = begun_file part.Challenge (get files names.first.challenge) >>= reply_then
       board
 
-  pub files_unread : (unread : Part × Bool)
-      → first_unread files (name_of names) extract_parts ≡ Some unread
-      → of_files whole files names.board names.first.challenge names.first.reply
-      names.second.challenge names.second.reply ≡ Err (fault_of unread)
+  pub files_unread : NamesUnread files (name_of names) extract_parts
+      (of_files whole files names.board names.first.challenge names.first.reply
+      names.second.challenge names.second.reply)
   files_unread unread is =
       begun_unread part.Board _ challenge_then unread (λ board rest.
       begun_unread part.Challenge _ (reply_then board) unread (λ challenge rest.
@@ -131,6 +128,10 @@ files_held read = record {
 
 -- ---- the answer
 
+-- what is said of it, where the files have these names
+abbrev pub said_by : {X : Type 0} → PartNames → (X → SaidValue) → Result X VErr → SaidValue
+said_by name said answered = answer_said said (unread_said name) answered
+
 -- what settles what is said, where it holds, is the answer
 abbrev pub IsAlone : {X : Type 0} → (Result X VErr → Type 0) → (X → Type 0) → Result X VErr
     → Type 0
@@ -140,7 +141,7 @@ IsAlone {X} Settles Holds answer =
 -- an answer that names the first of these parts whose file can't be read, and holds where all can
 -- be
 module _ {X : Type 0} (files : Files) (name : PartNames) (parts : List Part) (Holds : X → Type 0) (answer : Result X VErr)
-    (unread : (unread : Part × Bool) → first_unread files name parts ≡ Some unread → answer ≡ Err (fault_of unread)) where
+    (unread : NamesUnread files name parts answer) where
   abbrev Answers : Result X VErr → Type 0
   Answers = AnswerHolds files name (map name parts) Holds
 
@@ -159,7 +160,7 @@ module _ {X : Type 0} (files : Files) (name : PartNames) (parts : List Part) (Ho
   -- it is said like every answer that holds and is the only one of its kind
   module _ (said : X → SaidValue) where
     abbrev said_of : Result X VErr → SaidValue
-    said_of answered = answer_said said (unread_said name) answered
+    said_of = said_by name said
 
     pub answered_settled : (Settles : Result X VErr → Type 0) → IsAlone Settles Holds answer
         → (other : Result X VErr) → Settles other → Answers other → said_of answer ≡ said_of other
@@ -184,9 +185,7 @@ module _ {X : Type 0} (files : Files) (name : PartNames) (parts : List Part) (Ho
 -- of three files that can all be read, and of five, that value is the answer
 pub verify_holds : {X : Type 0} (files : Files) (names : VerifyWords) (Holds : X → Type 0)
     (answer : Result X VErr)
-    → ((unread : Part × Bool)
-    → first_unread files (name_in names) verify_parts ≡ Some unread
-    → answer ≡ Err (fault_of unread))
+    → NamesUnread files (name_in names) verify_parts answer
     → (value : (board challenge reply : List ℕ) → X)
     → ((board : List ℕ) → IsHeldFile files names.board board
     → (attempt : HeldAttempt files names.attempt.challenge names.attempt.reply)
@@ -203,8 +202,7 @@ verify_holds files names Holds answer unread value read holds =
 
 pub extract_holds : {X : Type 0} (files : Files) (names : ExtractWords) (Holds : X → Type 0)
     (answer : Result X VErr)
-    → ((unread : Part × Bool) → first_unread files (name_of names) extract_parts ≡ Some unread
-    → answer ≡ Err (fault_of unread))
+    → NamesUnread files (name_of names) extract_parts answer
     → (value : HoldsFiles files names → X)
     → ((held : HoldsFiles files names) → answer ≡ Ok (value held))
     → ((held : HoldsFiles files names) → Holds (value held))

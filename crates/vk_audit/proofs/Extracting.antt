@@ -3,7 +3,6 @@
 use Rattle.std.proofs.Common.{◌≡◌, ◌≢◌, ℕ, ◌<◌, Bool, true, false, List, Option, Some, None, Result, Ok, Err, refl, sym, ap, subst, ◌∙◌, arith, inl, inr}
 use Rattle.std.specs.Prelude.{◌⊎◌}
 use Rattle.vk_io.specs.Files.{Files, Modelled}
-use Rattle.vk_judge.specs.declared.answers.Part.{Part}
 use Rattle.vk_verifier.specs.declared.answers.BoardVerdict.{BoardVerdict}
 use Rattle.vk_verifier.specs.declared.answers.BoardVerdict.TheVariants as verdict
 use Rattle.vk_judge.specs.declared.answers.VErr.{VErr}
@@ -26,7 +25,7 @@ use Rattle.vk_audit.specs.Statuses.{AcceptsTwoFiles, AcceptsSameFiles, ExtractsE
 use Rattle.vk_audit.specs.Verdicts.{answer_said, name_of, unread_said}
 use Rattle.vk_audit.proofs.Findings.{extraction_holds, second_accepted, unfound_found}
 use Rattle.vk_audit.proofs.Answered.{IsAlone, answered_tells, extract_holds, extract_parts, files_unread}
-use Rattle.vk_audit.proofs.Inputs.{fault_of, first_unread}
+use Rattle.vk_audit.proofs.Inputs.{NamesUnread}
 use Rattle.vk_audit.proofs.Telling.{only_found, only_same, second_refused}
 use Rattle.vk_audit.proofs.Verifying.{status_accepted, status_within}
 
@@ -37,11 +36,9 @@ module _ (files : Files) (names : ExtractWords) where
   answer = extraction_on files names.board names.first.challenge names.first.reply
       names.second.challenge names.second.reply
 
-  pub answer_unread : (unread : Part × Bool)
-      → first_unread files (name_of names) extract_parts ≡ Some unread
-      → answer ≡ Err (fault_of unread)
+  pub answer_unread : NamesUnread files (name_of names) extract_parts answer
   unfolding extraction_on
-  answer_unread unread is = files_unread extraction_at files names unread is
+  answer_unread = files_unread extraction_at files names
 
   pub answer_read : (held : HoldsFiles files names) → answer ≡ Ok (extraction_of_held held)
   answer_read held =

@@ -234,3 +234,10 @@ module _ (files : Files) (name : Part → List ℕ) where
       → (part : Part) × (first_unread parts ≡ Some (part, long)) × (name part ≡ first)
   unread_found parts first long is =
       found_at parts is.earlier is.later first long is.names_are is.read is.why
+
+-- an answer names the first of these parts whose file can't be read, and why
+abbrev pub NamesUnread : {X : Type 0} → Files → (Part → List ℕ) → List Part → Result X VErr
+    → Type 0
+NamesUnread files name parts answer =
+    (unread : Part × Bool) → first_unread files name parts ≡ Some unread
+    → answer ≡ Err (fault_of unread)

@@ -1,14 +1,21 @@
 -- What is answered is told, where it holds, and where all that settles what is said is said like
 -- it; and which answers have a status.
-use Rattle.std.proofs.Common.{◌≡◌, ◌≢◌, ℕ, ◌<◌, ◌≤◌, Bool, List, Option, Result, Ok, Err, refl, sym, ap, ◌∙◌, arith}
+use Rattle.std.proofs.Common.{◌≡◌, ◌≢◌, ℕ, ◌<◌, ◌≤◌, Bool, List, Option, IfSome, Result, Ok, Err, refl, sym, ap, ◌∙◌, arith}
+use Rattle.std.specs.Prelude.{IfOk, IsErrOf}
+use Rattle.vk_io.specs.declared.errors.OutsideErr.{OutsideErr}
+use Rattle.vk_io.specs.declared.errors.OutsideErr.TheVariants.{Failed as OutsideFailed, NoMemory as OutOfMemory}
 use Rattle.vk_io.specs.Files.{Files}
+use Rattle.vk_io.specs.Reads.{OnlyReads}
+use Rattle.vk_judge.specs.Wanting.{MemoryWasWanting}
 use Rattle.vk_commit.specs.Commitment.{TwoOpeningsSeen}
 use Rattle.vk_judge.specs.declared.answers.VErr.{VErr}
 use Rattle.vk_judge.specs.declared.answers.VErr.TheVariants.{Missing, TooLong, Failed, NoMemory}
 use Rattle.vk_bids.specs.declared.extraction.Extraction.{Extraction}
 use Rattle.vk_bids.specs.declared.extraction.Extraction.TheVariants.{Refused, Same, Clash, Bids}
 use Rattle.vk_effect.specs.Effects.{SaidValue, puts}
+use Rattle.vk_effect.proofs.Acting.{if_some_map}
 use Rattle.vk_audit.specs.Answers.{AnswerHolds, TellsAnswer}
+use Rattle.vk_audit.specs.Audits.{SaysOf}
 use Rattle.vk_audit.specs.Findings.{RefusesSecond}
 use Rattle.vk_audit.specs.Verdicts.{PartNames, answer_said, unread_said}
 
@@ -88,3 +95,20 @@ module _ {V X : Type 0} (files : Files) (name : PartNames) (inputs : List (List 
       absurd (omega (arith, same_is, small))
   only_found P refused clashes finds (Ok (Clash clash)) holds other small = clashes clash holds
   only_found P refused clashes finds (Ok (Bids found)) holds other small = finds found holds
+
+-- ---- over a shelf
+
+-- what is said of each answer is said of that of the files that are held
+pub says_by : {S : Type 0} {modelled : S → Option Files} {count : S → ℕ}
+    {said_of : Files → SaidValue} {result : Result SaidValue OutsideErr} {old new : S}
+    {Answered : Files → Type 0} → IfSome (modelled old) Answered
+    → ((files : Files) → Answered files → IfOk result (λ said. said ≡ said_of files))
+    → (IsErrOf result OutOfMemory → MemoryWasWanting)
+    → OnlyReads modelled count OutsideFailed result old new
+    → SaysOf modelled count said_of result old new
+says_by {modelled} {said_of} {result} {old} {Answered} answered said wanting shelf = record {
+  said = if_some_map Answered (λ files. IfOk result (λ value. value ≡ said_of files)) said
+      (modelled old) answered;
+  wanting = wanting;
+  shelf = shelf;
+}

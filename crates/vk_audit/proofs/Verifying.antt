@@ -1,7 +1,6 @@
 -- What `verify` says holds of the files, and status 0 comes exactly where the reply is accepted.
 use Rattle.std.proofs.Common.{◌≡◌, ◌≢◌, ℕ, ◌<◌, ◌≤◌, Bool, false, List, Some, Result, Ok, Err, refl, ap, subst, ◌∙◌, arith}
 use Rattle.vk_io.specs.Files.{Files}
-use Rattle.vk_judge.specs.declared.answers.Part.{Part}
 use Rattle.vk_verifier.specs.declared.answers.BoardVerdict.{BoardVerdict}
 use Rattle.vk_verifier.specs.declared.answers.BoardVerdict.TheVariants as verdict
 use Rattle.vk_judge.specs.declared.answers.VErr.{VErr}
@@ -15,7 +14,7 @@ use Rattle.vk_audit.specs.Inputs.{verify_inputs}
 use Rattle.vk_audit.specs.Statuses.{AcceptsFiles, HasVerdict, VerifiesExactly}
 use Rattle.vk_audit.specs.Verdicts.{PartNames, answer_said, judged_said, name_in, unread_said}
 use Rattle.vk_audit.proofs.Answered.{IsAlone, answered_tells, attempt_read, attempt_unread, verify_holds, verify_parts}
-use Rattle.vk_audit.proofs.Inputs.{fault_of, first_unread}
+use Rattle.vk_audit.proofs.Inputs.{NamesUnread}
 use Rattle.vk_audit.proofs.Telling.{only_value}
 
 -- ---- verdicts
@@ -48,11 +47,9 @@ module _ (files : Files) (names : VerifyWords) where
   abbrev answer : Result BoardVerdict VErr
   answer = verdict_on files names.board names.attempt.challenge names.attempt.reply
 
-  answer_unread : (unread : Part × Bool)
-      → first_unread files (name_in names) verify_parts ≡ Some unread
-      → answer ≡ Err (fault_of unread)
+  answer_unread : NamesUnread files (name_in names) verify_parts answer
   unfolding verdict_on
-  answer_unread unread is = attempt_unread verdict_at files names unread is
+  answer_unread = attempt_unread verdict_at files names
 
   answer_read : (board : List ℕ) → IsHeldFile files names.board board
       → (attempt : HeldAttempt files names.attempt.challenge names.attempt.reply)

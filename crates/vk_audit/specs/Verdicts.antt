@@ -10,7 +10,7 @@ use Rattle.vk_verifier.specs.declared.answers.BoardVerdict.TheVariants.{Accepted
 use Rattle.vk_judge.specs.declared.answers.VErr.{VErr}
 use Rattle.vk_judge.specs.declared.answers.VErr.TheVariants.{Missing, TooLong, Failed, NoMemory}
 use Rattle.vk_verifier.specs.Verdicts.{verdict_on}
-use Rattle.vk_words.specs.Names.{ExtractWords, VerifyWords}
+use Rattle.vk_words.specs.Names.{AttemptWords, ExtractWords, VerifyWords}
 use Rattle.vk_effect.specs.Effects.{SaidValue}
 use Rattle.vk_effect.specs.Texts.{◌+++◌, line_feed}
 use Rattle.vk_effect.specs.NamedFiles.{malformed_said, missing_said, refused_said, too_long_said}
@@ -21,21 +21,21 @@ use Rattle.vk_effect.specs.NamedFiles.{malformed_said, missing_said, refused_sai
 abbrev pub PartNames : Type 0
 PartNames = Part → List ℕ
 
--- the names of one reply's files, which is both the first and the second
-abbrev pub name_in : VerifyWords → PartNames
-name_in names Board = names.board
-name_in names Challenge = names.attempt.challenge
-name_in names Reply = names.attempt.reply
-name_in names SecondChallenge = names.attempt.challenge
-name_in names SecondReply = names.attempt.reply
+-- the names of a file, and of the files of two replies to it
+abbrev pub names_by : List ℕ → (first second : AttemptWords) → PartNames
+names_by board first second Board = board
+names_by board first second Challenge = first.challenge
+names_by board first second Reply = first.reply
+names_by board first second SecondChallenge = second.challenge
+names_by board first second SecondReply = second.reply
 
--- the names of two replies' files
+-- those of one reply, which is both the first and the second
+abbrev pub name_in : VerifyWords → PartNames
+name_in names = names_by names.board names.attempt names.attempt
+
+-- those of two
 abbrev pub name_of : ExtractWords → PartNames
-name_of names Board = names.board
-name_of names Challenge = names.first.challenge
-name_of names Reply = names.first.reply
-name_of names SecondChallenge = names.second.challenge
-name_of names SecondReply = names.second.reply
+name_of names = names_by names.board names.first names.second
 
 -- the second reply, or the first
 abbrev pub reply_part : Bool → Part

@@ -1,13 +1,10 @@
 //! An auditor's command over a shelf of files.
 
 ghost use Rattle.std.specs.Prelude.{IfSome, IsErrOf};
-ghost use Rattle.vk_io.specs.Reads.{OnlyReads};
-ghost use Rattle.vk_lines.specs.Gives.{Gives};
+ghost use Rattle.vk_judge.specs.Common.{Gives, MemoryWasWanting, OnlyReads};
 ghost use Rattle.vk_bids.specs.Confrontation.{fault_of};
-ghost use Rattle.vk_judge.specs.Wanting.{MemoryWasWanting};
-ghost use Rattle.vk_words.specs.Audits.{audit_seen};
 ghost use Rattle.vk_words.specs.Names.{confront_seen, verify_seen};
-ghost use Rattle.vk_audit.specs.Audits.{Says, audit_said};
+ghost use Rattle.vk_audit.specs.Audits.{SaysOf, audit_of};
 ghost use Rattle.vk_audit.specs.Confrontations.{confrontation_in};
 ghost use Rattle.vk_audit.specs.Reports.{report_said};
 ghost use Rattle.vk_audit.specs.Verdicts.{verify_said};
@@ -31,10 +28,7 @@ pub fn audit<S: Shelf>(
     shelf: &mut S,
     audit: &AuditOrder<'_>,
 ) -> Result<Said, OutsideErr>
-    ensures said { Says (S.held shelf.old) result
-        (λ files. audit_said files (audit_seen audit.now)) }
-    ensures wanting { IsErrOf result OutsideErr.NoMemory → MemoryWasWanting }
-    ensures shelf { OnlyReads S.held S.Shelf.faults OutsideErr.Failed result shelf.old shelf.new }
+    ensures { SaysOf S.held S.Shelf.faults (audit_of audit.now) result shelf.old shelf.new }
 {
     match audit {
         AuditOrder::Verify(names) => {
@@ -65,10 +59,8 @@ fn say_verified<S: Shelf>(
     shelf: &mut S,
     names: &OneReply<'_>,
 ) -> Result<Said, OutsideErr>
-    ensures said { Says (S.held shelf.old) result
-        (λ files. verify_said files (verify_seen names.now)) }
-    ensures wanting { IsErrOf result OutsideErr.NoMemory → MemoryWasWanting }
-    ensures shelf { OnlyReads S.held S.Shelf.faults OutsideErr.Failed result shelf.old shelf.new }
+    ensures { SaysOf S.held S.Shelf.faults (λ files. verify_said files (verify_seen names.now))
+        result shelf.old shelf.new }
 {
     let said = match verdict(alloc, shelf, names.file, names.challenge, names.reply) {
         Ok(verdict) => say_verdict(alloc, names, false, verdict)?,
@@ -80,9 +72,8 @@ fn say_verified<S: Shelf>(
 /// What is said of a board alone.
 #[tactic(auto, using(vk_judge::specs::Wanting::memory_was_wanting))]
 fn report_told<S: Shelf>(alloc: Global, shelf: &mut S, board: &str) -> Result<Said, OutsideErr>
-    ensures said { Says (S.held shelf.old) result (λ files. report_said files board.now) }
-    ensures wanting { IsErrOf result OutsideErr.NoMemory → MemoryWasWanting }
-    ensures shelf { OnlyReads S.held S.Shelf.faults OutsideErr.Failed result shelf.old shelf.new }
+    ensures { SaysOf S.held S.Shelf.faults (λ files. report_said files board.now) result shelf.old
+        shelf.new }
 {
     let said = match read_report(alloc, shelf, board) {
         Ok(report) => say_report(alloc, &report)?,

@@ -4,11 +4,9 @@ ghost use Rattle.std.specs.Prelude.{◌≡◌, ℕ, Err, IfOk, IsErrOf, IsOk, Ok
 ghost use Rattle.vk_audit.specs.Confrontations.{IsOfNamedFile, NamesNoFile, confrontation_said, confront_unread_said};
 ghost use Rattle.vk_audit.specs.Verdicts.{answer_said};
 ghost use Rattle.vk_commit.specs.Commitment.{TwoOpeningsSeen};
-ghost use Rattle.vk_io.specs.Faults.{Causes};
-ghost use Rattle.vk_lines.specs.Gives.{Gives};
+ghost use Rattle.vk_judge.specs.Common.{Causes, Gives, MemoryWasWanting};
 ghost use Rattle.vk_bids.specs.declared.confrontation.ConfrontErr.{ConfrontErr};
 ghost use Rattle.vk_bids.specs.declared.confrontation.Confrontation.{Confrontation};
-ghost use Rattle.vk_judge.specs.Wanting.{MemoryWasWanting};
 ghost use Rattle.vk_bids.specs.Confrontation.{fault_of};
 ghost use Rattle.vk_bids.specs.ConfrontTexts.{confrontation_text};
 ghost use Rattle.vk_bids.specs.Texts.{clash_text};

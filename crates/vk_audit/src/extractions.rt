@@ -2,11 +2,8 @@
 
 ghost use Rattle.std.specs.Prelude.{◌≡◌, ℕ, IfOk, IsErr, IsErrOf, Ok, Result};
 ghost use Rattle.vk_commit.specs.Commitment.{TwoOpeningsSeen};
-ghost use Rattle.vk_io.specs.Faults.{Causes};
-ghost use Rattle.vk_lines.specs.Gives.{Gives};
+ghost use Rattle.vk_judge.specs.Common.{Causes, Gives, MemoryWasWanting, unread_file};
 ghost use Rattle.vk_judge.specs.declared.answers.VErr.{VErr};
-ghost use Rattle.vk_judge.specs.Begun.{unread_file};
-ghost use Rattle.vk_judge.specs.Wanting.{MemoryWasWanting};
 ghost use Rattle.vk_bids.specs.Extraction.{Extraction as BoardExtraction};
 ghost use Rattle.vk_bids.specs.Texts.{clash_text};
 ghost use Rattle.vk_words.specs.Names.{extract_seen};

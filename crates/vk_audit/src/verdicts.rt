@@ -1,8 +1,7 @@
 //! What is said of a verdict, and of files that give none.
 
 ghost use Rattle.std.specs.Prelude.{◌≡◌, ℕ, IfOk, IsErrOf, IsOk, OnOk, Err};
-ghost use Rattle.vk_io.specs.Faults.{Causes};
-ghost use Rattle.vk_judge.specs.Wanting.{MemoryWasWanting};
+ghost use Rattle.vk_judge.specs.Common.{Causes, MemoryWasWanting};
 ghost use Rattle.vk_words.specs.Names.{extract_seen, verify_seen};
 ghost use Rattle.vk_effect.specs.NamedFiles.{refused_said};
 ghost use Rattle.vk_audit.specs.Verdicts.{IsOfFile, PartNames, fault_text, judged_said, name_in, name_of, reply_part, row_cause, same_said, unread_said, wire_cause};

@@ -2,7 +2,6 @@
 -- challenges, values or a clash, and of no others.
 use Rattle.std.proofs.Common.{◌≡◌, ℕ, Bool, List, Option, Some, Result, Ok, Err, refl, sym, ap, subst, ◌∙◌}
 use Rattle.vk_io.specs.Files.{Files}
-use Rattle.vk_judge.specs.declared.answers.Part.{Part}
 use Rattle.vk_judge.specs.declared.answers.VErr.{VErr}
 use Rattle.vk_bids.specs.declared.extraction.Extraction.TheVariants.{Same}
 use Rattle.vk_bids.specs.FileExtraction.{file_extraction}
@@ -12,13 +11,13 @@ use Rattle.vk_claim.specs.Extraction.{ClaimExtraction, IsClaimOpened, claim_extr
 use Rattle.vk_claim.specs.Printing.{claim_extraction_text}
 use Rattle.vk_claim.proofs.Opening.{claim_files_are_extracted, claims_open}
 use Rattle.vk_words.specs.Names.{ExtractWords}
-use Rattle.vk_effect.specs.Effects.{SaidValue, puts}
+use Rattle.vk_effect.specs.Effects.{puts}
 use Rattle.vk_audit.specs.Answers.{SettlesExtract}
 use Rattle.vk_audit.specs.Inputs.{HoldsFiles, extract_inputs}
-use Rattle.vk_audit.specs.Verdicts.{answer_said, name_of, unread_said}
-use Rattle.vk_audit.proofs.Answered.{IsAlone, answered_tells, extract_holds, extract_parts, files_unread}
+use Rattle.vk_audit.specs.Verdicts.{name_of}
+use Rattle.vk_audit.proofs.Answered.{IsAlone, answered_tells, extract_holds, extract_parts, files_unread, said_by}
 use Rattle.vk_audit.proofs.Extracting.{found_said, told_apart}
-use Rattle.vk_audit.proofs.Inputs.{fault_of, first_unread}
+use Rattle.vk_audit.proofs.Inputs.{NamesUnread}
 use Rattle.vk_audit.proofs.Telling.{only_found, only_same}
 use Rattle.vk_claims.specs.Circuits.{admitted_plan, claimed, claims_are_sound, plans_are_right}
 use Rattle.vk_claims.specs.Extractions.{claim_extraction_said, claim_extract_said}
@@ -38,12 +37,9 @@ module _ (files : Files) (names : ExtractWords) where
       claim_extraction_in admitted_plan held.file_bytes held.first.challenge_bytes
       held.first.reply_bytes held.second.challenge_bytes held.second.reply_bytes
 
-  answer_unread : (unread : Part × Bool)
-      → first_unread files (name_of names) extract_parts ≡ Some unread
-      → answer ≡ Err (fault_of unread)
+  answer_unread : NamesUnread files (name_of names) extract_parts answer
   unfolding claim_extraction_on
-  answer_unread unread is =
-      files_unread (file_extraction (claim_at admitted_plan)) files names unread is
+  answer_unread = files_unread (file_extraction (claim_at admitted_plan)) files names
 
   answer_read : (held : HoldsFiles files names) → answer ≡ Ok (of_held held)
   answer_read held =
@@ -68,9 +64,6 @@ module _ (files : Files) (names : ExtractWords) where
       held.file_bytes held.first.challenge_bytes held.first.reply_bytes held.second.challenge_bytes
       held.second.reply_bytes extraction settles has.holds)
 
-abbrev said_of : ExtractWords → Result ClaimExtraction VErr → SaidValue
-said_of names = answer_said (claim_extraction_said names) (unread_said (name_of names))
-
 pub tells_claim_extractions : TellsClaimExtractions
 tells_claim_extractions files names =
     answered_tells files (name_of names) extract_parts (HasClaimExtraction files names)
@@ -84,9 +77,9 @@ said_of_accepted : (files : Files) (names : ExtractWords) (taken : Option (List 
     → let said = claim_extract_said files names in
     IsClaimExtracted accepted.two said.status taken (puts said.text taken)
 said_of_accepted files names taken accepted =
-    let P : Result ClaimExtraction VErr → Type 0 = λ answer. let said = said_of names answer
-    in IsClaimExtracted accepted.two said.status taken
-    (puts said.text taken) in
+    let P : Result ClaimExtraction VErr → Type 0 = λ answer.
+    let said = said_by (name_of names) (claim_extraction_said names) answer in
+    IsClaimExtracted accepted.two said.status taken (puts said.text taken) in
     subst P (sym (answer_read files names accepted.held))
     (found_said (IsClashOf accepted.two)
     (IsClaimOpened admitted_plan claimed accepted.two) claim_extraction_text
@@ -117,6 +110,7 @@ tells_same_claims_exactly files names = record {
       only_same files (name_of names) (extract_inputs names) (HasClaimExtraction files names)
       (claim_extraction_said names) refl (λ _. refl) (λ _. refl) (status_within (name_of names))
       (answer files names) (answer_holds files names);
-  always = λ same _ _. ap (λ answered. (said_of names answered).status)
+  always = λ same _ _.
+      ap (λ answered. (said_by (name_of names) (claim_extraction_said names) answered).status)
       (answer_alone files names Same (λ found. found) same);
 }

@@ -3,7 +3,6 @@
 use Rattle.std.proofs.Common.{◌≡◌, ◌≢◌, ℕ, ◌<◌, ◌≤◌, Bool, false, List, Some, Result, Ok, Err, refl, ap, ◌∙◌, arith, inl, inr}
 use Rattle.std.specs.Prelude.{◌⊎◌}
 use Rattle.vk_io.specs.Files.{Files}
-use Rattle.vk_judge.specs.declared.answers.Part.{Part}
 use Rattle.vk_judge.specs.declared.answers.VErr.{VErr}
 use Rattle.vk_judge.specs.declared.answers.Fault.TheVariants.{Malformed, Lanes, Wire, Row}
 use Rattle.vk_judge.specs.declared.opened.Refusal.{Refusal}
@@ -16,9 +15,9 @@ use Rattle.vk_claim.specs.Claims.{claim_at}
 use Rattle.vk_claim.specs.Verdicts.{ClaimJudged, claim_judged_in, claim_judged_on}
 use Rattle.vk_words.specs.Names.{VerifyWords}
 use Rattle.vk_audit.specs.Inputs.{verify_inputs}
-use Rattle.vk_audit.specs.Verdicts.{PartNames, answer_said, name_in, unread_said}
-use Rattle.vk_audit.proofs.Answered.{IsAlone, answered_tells, attempt_read, attempt_unread, verify_holds, verify_parts}
-use Rattle.vk_audit.proofs.Inputs.{fault_of, first_unread}
+use Rattle.vk_audit.specs.Verdicts.{PartNames, name_in}
+use Rattle.vk_audit.proofs.Answered.{IsAlone, answered_tells, attempt_read, attempt_unread, said_by, verify_holds, verify_parts}
+use Rattle.vk_audit.proofs.Inputs.{NamesUnread}
 use Rattle.vk_audit.proofs.Telling.{only_value}
 use Rattle.vk_claims.specs.Circuits.{admitted_plan, plans_are_right}
 use Rattle.vk_claims.specs.Statuses.{AcceptsClaim, ClaimVerifyHolds, HasClaimJudged, TellsClaimVerdicts, VerifiesClaimsExactly}
@@ -67,12 +66,9 @@ module _ (files : Files) (names : VerifyWords) where
   answer = claim_judged_on admitted_plan files names.board names.attempt.challenge
       names.attempt.reply
 
-  answer_unread : (unread : Part × Bool)
-      → first_unread files (name_in names) verify_parts ≡ Some unread
-      → answer ≡ Err (fault_of unread)
+  answer_unread : NamesUnread files (name_in names) verify_parts answer
   unfolding claim_judged_on
-  answer_unread unread is =
-      attempt_unread (file_judged (claim_at admitted_plan)) files names unread is
+  answer_unread = attempt_unread (file_judged (claim_at admitted_plan)) files names
 
   answer_read : (board : List ℕ) → IsHeldFile files names.board board
       → (attempt : HeldAttempt files names.attempt.challenge names.attempt.reply)
@@ -114,8 +110,7 @@ verifies_claims_exactly files names = record {
       (claim_judged_said (name_in names)) (AcceptsClaim files names)
       (zero_accepted (name_in names) (HasClaimJudged files names))
       (answer files names) (answer_holds files names);
-  always = λ accepts _ _. ap (λ answered. (answer_said
-      (claim_judged_said (name_in names)) (unread_said (name_in names))
-      answered).status)
+  always = λ accepts _ _.
+      ap (λ answered. (said_by (name_in names) (claim_judged_said (name_in names)) answered).status)
       (answer_alone files names (Ok tt) tt accepts);
 }

@@ -1,11 +1,12 @@
 -- The claims of samples, each shown in eight lanes: three equal units are sold to ten bidders at
 -- one price; or four men and four women are matched so that no pair blocks.
-use Rattle.std.specs.Prelude.{◌≡◌, ◌≤◌, ℕ, List, [], ◌∷◌, length, codes, Result}
+use Rattle.std.specs.Prelude.{◌≡◌, ◌≤◌, ℕ, List, [], ◌∷◌, length, codes, IfOk, IsErr, Result}
 use Rattle.std.proofs.Common.{arith}
 use Rattle.vk_residue.specs.Steps.{◌>>=◌}
 use Rattle.vk_keeper.specs.declared.auction.SealRow.{SealRow}
 use Rattle.vk_job.specs.Proofs as job
 use Rattle.vk_job.specs.Proofs.{IsPrepared, ProofValue, first_dry_in, prepared_proof, source_of}
+use Rattle.vk_judge.specs.Wanting.{MemoryWasWanting}
 use Rattle.vk_uniform.specs.Outcomes.{IsUniformOutcome}
 use Rattle.vk_uniform.specs.OutcomeLaws.{outcome_exists}
 use Rattle.vk_uniform.specs.UniformPlans.{uniform_values}
@@ -93,6 +94,12 @@ pub record IsMatchingOf (case : SampleCase) (numbers : List ℕ) : Type 0 where
 abbrev pub MayPublish : Kind → SampleCase → List ℕ → Type 0
 MayPublish Uniform case numbers = IsSaleOf case numbers
 MayPublish Matching case numbers = IsMatchingOf case numbers
+
+-- such numbers are given, or memory was wanting
+pub record Publishes {E : Type 0} (kind : Kind) (case : SampleCase) (result : Result (List ℕ) E)
+    : Type 0 where
+  pub may : IfOk result (MayPublish kind case)
+  pub wanting : IsErr result → MemoryWasWanting
 
 -- ---- the proof
 

@@ -1,10 +1,7 @@
 // The files of a sample's claim.
 ghost use Rattle.std.specs.Prelude.{◌≡◌, ◌≤◌, length, IfOk, IsErrOf};
-ghost use Rattle.vk_io.specs.Faults.{Causes};
-ghost use Rattle.vk_io.specs.Files.{Modelled};
-ghost use Rattle.vk_io.specs.Writing.{WritesAll};
+ghost use Rattle.vk_judge.specs.Common.{Causes, MemoryWasWanting, Modelled, WritesAll};
 ghost use Rattle.vk_job.specs.Proofs.{IsProof};
-ghost use Rattle.vk_judge.specs.Wanting.{MemoryWasWanting};
 ghost use Rattle.vk_claim.specs.Texts.{claim_head_text};
 ghost use Rattle.vk_claims.specs.Claims.{IsReady, head_with, proof_in};
 ghost use Rattle.vk_claims.specs.Texts.{files_of};

@@ -1,8 +1,7 @@
 // The honest proof of a sample's claim.
 ghost use Rattle.std.specs.Prelude.{◌≡◌, All, length, IfOk, IfSome, IsErrOf, IsSomeAnd};
 ghost use Rattle.vk_residue.specs.Residue.{IsResidue};
-ghost use Rattle.vk_lines.specs.Gives.{Gives};
-ghost use Rattle.vk_judge.specs.Wanting.{MemoryWasWanting};
+ghost use Rattle.vk_judge.specs.Common.{Gives, MemoryWasWanting};
 ghost use Rattle.vk_report.specs.Samples.{IsCaseOf};
 ghost use Rattle.vk_claims.specs.Circuits.{plan_of};
 ghost use Rattle.vk_sample_parts.specs.Auctions.{dry_of};

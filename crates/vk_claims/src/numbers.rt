@@ -1,9 +1,8 @@
 // The numbers that the claim of a sample publishes: the width of the sealed values, and what is
 // claimed of them.
-ghost use Rattle.std.specs.Prelude.{◌≡◌, ◌++◌, IfOk, IsErr};
-ghost use Rattle.vk_judge.specs.Wanting.{MemoryWasWanting};
+ghost use Rattle.std.specs.Prelude.{◌≡◌, ◌++◌, IfOk};
 ghost use Rattle.vk_report.specs.Samples.{IsCaseOf};
-ghost use Rattle.vk_claims.specs.Claims.{IsMatchingOf, IsSaleOf, MayPublish, sizes_of};
+ghost use Rattle.vk_claims.specs.Claims.{Publishes, sizes_of};
 ghost use Rattle.vk_words.specs.declared.claim.Kind.TheVariants.{Uniform, Matching};
 
 use std::alloc::Global;
@@ -44,8 +43,7 @@ pub fn sizes_of(kind: Kind) -> Sizes
 /// Numbers that may be published of the case.
 pub fn numbers_of(alloc: Global, kind: Kind, case: &SampleCase) -> Result<Seq<u64>, NoMemory>
     requires { IsCaseOf (sizes_of kind) case.now }
-    ensures may { IfOk result (MayPublish kind case.now) }
-    ensures wanting { IsErr result → MemoryWasWanting }
+    ensures { Publishes kind case.now result }
 {
     match kind {
         Kind::Uniform => {
@@ -63,8 +61,7 @@ pub fn numbers_of(alloc: Global, kind: Kind, case: &SampleCase) -> Result<Seq<u6
 #[tactic(auto, using(vk_judge::specs::Wanting::memory_was_wanting))]
 fn sale_of(alloc: Global, case: &SampleCase) -> Result<Seq<u64>, NoMemory>
     requires { IsCaseOf (sizes_of Uniform) case.now }
-    ensures sale { IfOk result (IsSaleOf case.now) }
-    ensures wanting { IsErr result → MemoryWasWanting }
+    ensures { Publishes Uniform case.now result }
 {
     let outcome = uniform(alloc, case.bids.as_slice(), UNITS)?;
     let front = [u64::from(case.width), outcome.price];
@@ -76,8 +73,7 @@ fn sale_of(alloc: Global, case: &SampleCase) -> Result<Seq<u64>, NoMemory>
 #[tactic(auto, using(vk_judge::specs::Wanting::memory_was_wanting))]
 fn matching_of(alloc: Global, case: &SampleCase) -> Result<Seq<u64>, NoMemory>
     requires { IsCaseOf (sizes_of Matching) case.now }
-    ensures matching { IfOk result (IsMatchingOf case.now) }
-    ensures wanting { IsErr result → MemoryWasWanting }
+    ensures { Publishes Matching case.now result }
 {
     let matching = propose(alloc, COUPLES, case.bids.as_slice())?;
     let numbers = list_numbers(alloc, &[u64::from(case.width)], matching.as_slice())?;

@@ -1,8 +1,7 @@
 // The files of a sample's claim, as they are read back.
 ghost use Rattle.std.specs.Prelude.{◌≡◌, IfOk, IfSome, IsErrOf, string_bytes};
 ghost use Rattle.std.specs.List.{flat_map};
-ghost use Rattle.vk_io.specs.Reads.{OnlyReads};
-ghost use Rattle.vk_judge.specs.Wanting.{MemoryWasWanting};
+ghost use Rattle.vk_judge.specs.Common.{MemoryWasWanting, OnlyReads};
 ghost use Rattle.vk_claims.specs.Texts.{claim_read, read_said};
 
 use crate::circuits::ClaimCircuits;

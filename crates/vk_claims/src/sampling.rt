@@ -1,6 +1,5 @@
 ghost use Rattle.std.specs.Prelude.{◌≡◌, ℕ, IfOk, IsErr, IsErrOf, Ok};
-ghost use Rattle.vk_io.specs.Faults.{Causes};
-ghost use Rattle.vk_judge.specs.Wanting.{MemoryWasWanting};
+ghost use Rattle.vk_judge.specs.Common.{Causes, MemoryWasWanting};
 ghost use Rattle.vk_report.specs.Samples.{IsCaseOf};
 ghost use Rattle.vk_sample_parts.specs.Effects.{ActsAs};
 ghost use Rattle.vk_claims.specs.Claims.{IsReady, MayPublish, claim_case, proof_by, proof_in, sizes_of};

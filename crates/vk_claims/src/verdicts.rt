@@ -1,6 +1,7 @@
 //! What is said of what judging a claim comes to.
 
-ghost use Rattle.std.specs.Prelude.{◌≡◌, IfOk, IsOk, Ok};
+ghost use Rattle.std.specs.Prelude.{◌≡◌, IfOk, IsErr, IsOk, Ok};
+ghost use Rattle.vk_judge.specs.Wanting.{MemoryWasWanting};
 ghost use Rattle.vk_claims.specs.Verdicts.{claim_judged_said, claim_refused_said};
 
 use std::alloc::Global;
@@ -31,6 +32,7 @@ pub fn claim_refused<N: NamedParts>(
 }
 
 /// What is said of one reply. That it is accepted takes no memory.
+#[tactic(auto, using(vk_judge::specs::Wanting::memory_was_wanting))]
 pub fn claim_judged<N: NamedParts>(
     alloc: Global,
     names: &N,
@@ -38,6 +40,7 @@ pub fn claim_judged<N: NamedParts>(
 ) -> Result<Said, NoMemory>
     ensures said { IfOk result (λ said. said ≡ claim_judged_said (N.name_of names.now) answer) }
     ensures accepted { answer ≡ Ok tt → IsOk result }
+    ensures wanting { IsErr result → MemoryWasWanting }
 {
     let said = match answer {
         Ok(()) => say_verdict(alloc, names, false, BoardVerdict::Accepted)?,

@@ -5,8 +5,7 @@ ghost use Rattle.vk_coins.specs.Deeds.{coin_on, deed_on};
 ghost use Rattle.vk_effect.specs.Ends.{Acts};
 ghost use Rattle.vk_effect.specs.Effects.{stores};
 ghost use Rattle.vk_keeper.specs.Ledgers.{Ledger};
-ghost use Rattle.vk_io.specs.Faults.{Causes};
-ghost use Rattle.vk_io.specs.Reads.{OnlyReads};
+ghost use Rattle.vk_lines.specs.Common.{Causes, OnlyReads};
 ghost use Rattle.std.specs.Prelude.{◌≡◌, IfOk, IfSome, Option};
 
 use crate::boards::derive_deed;

@@ -2,8 +2,7 @@
 
 ghost use Rattle.std.specs.Prelude.{◌≡◌, IfOk, IfSome};
 ghost use Rattle.vk_coin.specs.Coins.{IsCoin};
-ghost use Rattle.vk_io.specs.Reads.{OnlyReads};
-ghost use Rattle.vk_lines.specs.Gives.{Gives};
+ghost use Rattle.vk_lines.specs.Common.{Gives, OnlyReads};
 ghost use Rattle.vk_words.specs.Coins.{challenge_seen};
 ghost use Rattle.vk_effect.specs.Reading.{said_of_unread};
 ghost use Rattle.vk_coins.specs.Joining.{coin_deed, coin_in, joined_said, unmet_said};

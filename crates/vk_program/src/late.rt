@@ -4,9 +4,7 @@ ghost use Rattle.std.specs.Prelude.{◌≡◌, ◌⊎◌, None, Some, Err, IfOk,
 ghost use Rattle.std.specs.FinMap as map;
 ghost use Rattle.vk_io.specs.Faults.{Causes};
 ghost use Rattle.vk_io.specs.Files.{Modelled};
-ghost use Rattle.vk_keeper.specs.Auctions.{IsAuction};
-ghost use Rattle.vk_keeper.specs.Ledgers.{IsLedger, Keeps};
-ghost use Rattle.vk_keeper.specs.Turns.{AfterGet, AfterPut};
+ghost use Rattle.vk_keeper.specs.Common.{AfterGet, AfterPut, IsAuction, IsLedger, Keeps};
 ghost use Rattle.vk_program.specs.Houses.{CausesUnopened, OpenOrNone, told_by};
 
 use crate::house::{HousePlace, Unopened};

@@ -1,9 +1,6 @@
 // The files of a sample.
 ghost use Rattle.std.specs.Prelude.{◌≡◌, IsErrOf, length};
-ghost use Rattle.vk_io.specs.Faults.{Causes};
-ghost use Rattle.vk_io.specs.Files.{Modelled};
-ghost use Rattle.vk_io.specs.Writing.{WritesAll};
-ghost use Rattle.vk_judge.specs.Wanting.{MemoryWasWanting};
+ghost use Rattle.vk_judge.specs.Common.{Causes, MemoryWasWanting, Modelled, WritesAll};
 ghost use Rattle.vk_words.specs.Names.{extract_seen};
 ghost use Rattle.vk_sample.specs.Texts.{files_of, sample_names};
 

@@ -1,7 +1,6 @@
 // The auction of a sample.
 ghost use Rattle.std.specs.Prelude.{◌≡◌, IsErrOf};
-ghost use Rattle.vk_judge.specs.Wanting.{MemoryWasWanting};
-ghost use Rattle.vk_lines.specs.Gives.{Gives};
+ghost use Rattle.vk_judge.specs.Common.{Gives, MemoryWasWanting};
 ghost use Rattle.vk_report.specs.Samples.{IsSampleCase};
 ghost use Rattle.vk_sample_parts.specs.Auctions.{auction_of, dry_of};
 

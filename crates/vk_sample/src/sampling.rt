@@ -1,6 +1,5 @@
 ghost use Rattle.std.specs.Prelude.{◌≡◌, ℕ, IfOk, IsErr, IsErrOf, Ok};
-ghost use Rattle.vk_io.specs.Faults.{Causes};
-ghost use Rattle.vk_judge.specs.Wanting.{MemoryWasWanting};
+ghost use Rattle.vk_judge.specs.Common.{Causes, MemoryWasWanting};
 ghost use Rattle.vk_report.specs.Samples.{sample_of};
 ghost use Rattle.vk_sample_parts.specs.Auctions.{auction_of};
 ghost use Rattle.vk_sample_parts.specs.Effects.{ActsAs};

@@ -9,3 +9,6 @@ returns-clause-acts g c = record {
       ledger _ c.audit-said.ensures.shelf.held c.audit-said.ensures.said;
   causes = c.audit-said.ensures.shelf.causes;
 }
+
+pub returns-clause-wanting : goal.returns-clause-wanting
+returns-clause-wanting g c = c.audit-said.ensures.wanting

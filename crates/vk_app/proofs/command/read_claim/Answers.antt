@@ -9,3 +9,6 @@ returns-clause-acts g c = record {
       _ ledger _ c.audit_claim-said.ensures.shelf.held c.audit_claim-said.ensures.said;
   causes = c.audit_claim-said.ensures.shelf.causes;
 }
+
+pub returns-clause-wanting : goal.returns-clause-wanting
+returns-clause-wanting g c = c.audit_claim-said.ensures.wanting

@@ -1,4 +1,4 @@
-use Rattle.std.proofs.Common.{ℕ, List, Option, IfSome, Ok, map, refl, string_bytes, inl, inr}
+use Rattle.std.proofs.Common.{ℕ, List, Option, IfSome, Ok, map, refl, string_bytes, inl, inr, rules}
 use Rattle.vk_io.specs.Files.{Files}
 use Rattle.vk_keeper.specs.Ledgers.{Ledger}
 use Rattle.vk_effect.specs.Effects.{Outside, outside, stores}
@@ -26,103 +26,49 @@ by_end : {P : Option Files → Option Ledger → List (List ℕ) → ℕ → Opt
     (g.W.Sink.taken c.perform.new.out))
 by_end g c follows = follows _ _ _ _ _ _ c.in-Ok.ensures.ends
 
-pub returns-in-Ok-clause-headline : goal.returns-in-Ok-clause-headline
-returns-in-Ok-clause-headline g c =
-    by_end g (goal.at.returns-in-Ok-clause-headline g c).In-Ok (told_of Headline ended_headline)
-
-pub returns-in-Ok-clause-sound : goal.returns-in-Ok-clause-sound
-returns-in-Ok-clause-sound g c =
-    by_end g (goal.at.returns-in-Ok-clause-sound g c).In-Ok (told_of ExtractIsSound ended_sound)
-
-pub returns-in-Ok-clause-complete : goal.returns-in-Ok-clause-complete
-returns-in-Ok-clause-complete g c =
-    by_end g (goal.at.returns-in-Ok-clause-complete g c).In-Ok
-    (told_of ExtractIsComplete ended_complete)
-
-pub returns-in-Ok-clause-claim_sound : goal.returns-in-Ok-clause-claim_sound
-returns-in-Ok-clause-claim_sound g c =
-    by_end g (goal.at.returns-in-Ok-clause-claim_sound g c).In-Ok
-    (told_of ClaimExtractIsSound ended_claim_sound)
-
-pub returns-in-Ok-clause-claim_complete : goal.returns-in-Ok-clause-claim_complete
-returns-in-Ok-clause-claim_complete g c =
-    by_end g (goal.at.returns-in-Ok-clause-claim_complete g c).In-Ok
-    (told_of ClaimExtractIsComplete ended_claim_complete)
-
-pub returns-in-Ok-clause-audits : goal.returns-in-Ok-clause-audits
-returns-in-Ok-clause-audits g c =
-    by_end g (goal.at.returns-in-Ok-clause-audits g c).In-Ok (told_of Audits ended_audits)
-
-pub returns-in-Ok-clause-claim_headline : goal.returns-in-Ok-clause-claim_headline
-returns-in-Ok-clause-claim_headline g c =
-    by_end g (goal.at.returns-in-Ok-clause-claim_headline g c).In-Ok
-    (told_of ClaimHeadline ended_claim_headline)
-
-pub returns-in-Ok-clause-claims : goal.returns-in-Ok-clause-claims
-returns-in-Ok-clause-claims g c =
-    by_end g (goal.at.returns-in-Ok-clause-claims g c).In-Ok (told_of Claims ended_claims)
-
-pub returns-in-Ok-clause-seals : goal.returns-in-Ok-clause-seals
-returns-in-Ok-clause-seals g c = by_end g (goal.at.returns-in-Ok-clause-seals g c).In-Ok told_seal
-
-pub returns-in-Ok-clause-coins : goal.returns-in-Ok-clause-coins
-returns-in-Ok-clause-coins g c = by_end g (goal.at.returns-in-Ok-clause-coins g c).In-Ok told_coin
-
-pub returns-in-Ok-clause-house : goal.returns-in-Ok-clause-house
-returns-in-Ok-clause-house g c =
-    by_end g (goal.at.returns-in-Ok-clause-house g c).In-Ok told_house c.in-Ok.ensures.free
-
-pub returns-in-Ok-clause-ceremony : goal.returns-in-Ok-clause-ceremony
-returns-in-Ok-clause-ceremony g c =
-    by_end g (goal.at.returns-in-Ok-clause-ceremony g c).In-Ok told_ceremony
-
-pub returns-in-Ok-clause-usage : goal.returns-in-Ok-clause-usage
-returns-in-Ok-clause-usage g c =
-    by_end g (goal.at.returns-in-Ok-clause-usage g c).In-Ok told_usage c.in-Ok.ensures.usage
-
-pub returns-in-Ok-clause-parts : goal.returns-in-Ok-clause-parts
-returns-in-Ok-clause-parts g c = λ is.
-    neither _ c.in-Ok.status is c.in-Ok.ensures.end.0 c.in-Ok.ensures.end.1
+pub returns-in-Ok : goal.returns-in-Ok
+returns-in-Ok g c =
+    let at = (goal.at.returns-in-Ok g c).In-Ok in
+    let end = c.in-Ok.ensures.end in
+    record {
+      done = search rules;
+      stopped = search rules;
+      sound = by_end g at (told_of ExtractIsSound ended_sound);
+      complete = by_end g at (told_of ExtractIsComplete ended_complete);
+      headline = by_end g at (told_of Headline ended_headline);
+      audits = by_end g at (told_of Audits ended_audits);
+      claim_sound = by_end g at (told_of ClaimExtractIsSound ended_claim_sound);
+      claim_complete = by_end g at (told_of ClaimExtractIsComplete ended_claim_complete);
+      claim_headline = by_end g at (told_of ClaimHeadline ended_claim_headline);
+      claims = by_end g at (told_of Claims ended_claims);
+      seals = by_end g at told_seal;
+      matching = sampled_done _ _ _ _ c.in-Ok.ensures.free end.0 end.1;
+      coins = by_end g at told_coin;
+      house = by_end g at told_house c.in-Ok.ensures.free;
+      ceremony = by_end g at told_ceremony;
+      files = search rules;
+      parts = λ is. neither _ c.in-Ok.status is end.0 end.1;
+      usage = by_end g at told_usage c.in-Ok.ensures.usage;
+      once = c.in-Ok.ensures.once;
+      keeper = c.in-Ok.ensures.keeper;
+      fault = search rules;
+      no_fault = search rules;
+    }
 
 pub returns-in-Err-Failed-clause-house : goal.returns-in-Err-Failed-clause-house
 returns-in-Err-Failed-clause-house g c =
-    unended_house (g.S.Shelf.held c.args.shelf.now) (g.K.Keeper.ledger c.args.keeper.now)
-    (map string_bytes c.args.words.now) _ (g.W.Sink.taken c.args.out.now)
-    (outside (stores (g.S.Shelf.held c.perform.new.shelf) (g.K.Keeper.ledger c.perform.new.keeper))
-    (g.W.Sink.taken c.perform.new.out)) c.in-Err-Failed.field-0 (inl refl)
+    unended_house _ _ _ _ _ _ c.in-Err-Failed.field-0 (inl refl)
     (c.in-Err-Failed.ensures.ends, c.in-Err-Failed.ensures.free)
-
-pub returns-in-Err-NoMemory-clause-house : goal.returns-in-Err-NoMemory-clause-house
-returns-in-Err-NoMemory-clause-house g c =
-    unended_house (g.S.Shelf.held c.args.shelf.now) (g.K.Keeper.ledger c.args.keeper.now)
-    (map string_bytes c.args.words.now) _ (g.W.Sink.taken c.args.out.now)
-    (outside (stores (g.S.Shelf.held c.perform.new.shelf) (g.K.Keeper.ledger c.perform.new.keeper))
-    (g.W.Sink.taken c.perform.new.out)) c.in-Err-NoMemory.field-0 (inr refl)
-    (c.in-Err-NoMemory.ensures.ends, c.in-Err-NoMemory.ensures.free)
-
-pub returns-in-Ok-clause-matching : goal.returns-in-Ok-clause-matching
-returns-in-Ok-clause-matching g c =
-    sampled_done (map string_bytes c.args.words.now) c.in-Ok.status
-    (outside (stores (g.S.Shelf.held c.args.shelf.now) (g.K.Keeper.ledger c.args.keeper.now))
-    (g.W.Sink.taken c.args.out.now))
-    (outside (stores (g.S.Shelf.held c.perform.new.shelf) (g.K.Keeper.ledger c.perform.new.keeper))
-    (g.W.Sink.taken c.perform.new.out)) c.in-Ok.ensures.free c.in-Ok.ensures.end.0
-    c.in-Ok.ensures.end.1
 
 pub returns-in-Err-Failed-clause-matching : goal.returns-in-Err-Failed-clause-matching
 returns-in-Err-Failed-clause-matching g c =
-    sampled_stopped (map string_bytes c.args.words.now) 6
-    (outside (stores (g.S.Shelf.held c.args.shelf.now) (g.K.Keeper.ledger c.args.keeper.now))
-    (g.W.Sink.taken c.args.out.now))
-    (outside (stores (g.S.Shelf.held c.perform.new.shelf) (g.K.Keeper.ledger c.perform.new.keeper))
-    (g.W.Sink.taken c.perform.new.out)) c.in-Err-Failed.field-0 c.in-Err-Failed.ensures.free
-    (inl refl)
+    sampled_stopped _ _ _ _ c.in-Err-Failed.field-0 c.in-Err-Failed.ensures.free (inl refl)
 
 pub returns-in-Err-NoMemory-clause-matching : goal.returns-in-Err-NoMemory-clause-matching
 returns-in-Err-NoMemory-clause-matching g c =
-    sampled_stopped (map string_bytes c.args.words.now) 9
-    (outside (stores (g.S.Shelf.held c.args.shelf.now) (g.K.Keeper.ledger c.args.keeper.now))
-    (g.W.Sink.taken c.args.out.now))
-    (outside (stores (g.S.Shelf.held c.perform.new.shelf) (g.K.Keeper.ledger c.perform.new.keeper))
-    (g.W.Sink.taken c.perform.new.out)) c.in-Err-NoMemory.field-0 c.in-Err-NoMemory.ensures.free
-    (inr refl)
+    sampled_stopped _ _ _ _ c.in-Err-NoMemory.field-0 c.in-Err-NoMemory.ensures.free (inr refl)
+
+pub returns-in-Err-NoMemory-clause-house : goal.returns-in-Err-NoMemory-clause-house
+returns-in-Err-NoMemory-clause-house g c =
+    unended_house _ _ _ _ _ _ c.in-Err-NoMemory.field-0 (inr refl)
+    (c.in-Err-NoMemory.ensures.ends, c.in-Err-NoMemory.ensures.free)

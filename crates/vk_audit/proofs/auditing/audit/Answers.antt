@@ -1,12 +1,13 @@
-use Rattle.vk_effect.proofs.Acting.{if_some_map}
+use Rattle.std.proofs.Common.{rules}
+use Rattle.vk_audit.proofs.Telling.{says_by}
 use Rattle.vk_audit.proofs.auditing.audit.Goals as goal
 
-pub returns-in-Confront-clause-said : goal.returns-in-Confront-clause-said
-returns-in-Confront-clause-said g c =
-    rw c.in-Confront.is (if_some_map _ _ (λ files. c.confront_answered-said.ensures.said _)
-    (g.S.Shelf.held c.args.shelf.now) c.confronted_in-answer.ensures.modelled)
+pub returns-in-Confront : goal.returns-in-Confront
+returns-in-Confront g c = rw c.in-Confront.is (says_by c.confronted_in-answer.ensures.modelled
+    (λ files. c.confront_answered-said.ensures.said _)
+    c.confront_answered-said.ensures.wanting (search rules))
 
-pub returns-in-Extract-clause-said : goal.returns-in-Extract-clause-said
-returns-in-Extract-clause-said g c =
-    rw c.in-Extract.is (if_some_map _ _ (λ files. c.extract_answered-said.ensures.said _)
-    (g.S.Shelf.held c.args.shelf.now) c.extract-answer.ensures.modelled)
+pub returns-in-Extract : goal.returns-in-Extract
+returns-in-Extract g c = rw c.in-Extract.is (says_by c.extract-answer.ensures.modelled
+    (λ files. c.extract_answered-said.ensures.said _)
+    c.extract_answered-said.ensures.wanting (search rules))
