@@ -21,32 +21,34 @@ pub fn ask<S: Shelf>(
 ) -> Tried<()> {
     match step.word {
         "create" => push_answer(told, shelf.create(step.path)),
-        "append" => append(shelf, step, told),
-        "run" => append_run(alloc, shelf, step, told),
+        "append" => push_answer(told, shelf.append(step.path, word_at(step.text, 2)?)),
+        "run" => {
+            let run = run_of(alloc, number_at(step.text, 2, u64::MAX)?)?;
+            push_answer(told, shelf.append(step.path, run.as_slice()))
+        }
         "length" => tell_length(shelf, step.path, told),
-        "read" => tell_part(alloc, shelf, step, told),
+        "read" => {
+            let mut into = dots(alloc, number_at(step.text, 3, 1 << 20)?)?;
+            tell_part(shelf, step, into.as_mut_slice(), told)
+        }
         "whole" => tell_whole(alloc, shelf, step, told),
         _ => Err(Unreplayed::NoCase),
     }
 }
 
-/// Appends the text of a step.
-fn append<S: Shelf>(shelf: &mut S, step: &Step<'_>, told: &mut Vec<u8>) -> Tried<()> {
-    push_answer(told, shelf.append(step.path, word_at(step.text, 2)?))
+/// So many bytes, of which that of each place is the place modulo 251.
+fn run_of(alloc: Global, length: u64) -> Tried<Vec<u8>> {
+    let mut run = Vec::new(alloc);
+    for place in 0..length {
+        run.push((place % TURN) as u8)?;
+    }
+    Ok(run)
 }
 
-/// Appends so many bytes as one piece, of which that of each place is the place modulo 251.
-fn append_run<S: Shelf>(
-    alloc: Global,
-    shelf: &mut S,
-    step: &Step<'_>,
-    told: &mut Vec<u8>,
-) -> Tried<()> {
-    let mut piece = Vec::new(alloc);
-    for place in 0..number_at(step.text, 2, u64::MAX)? {
-        piece.push((place % TURN) as u8)?;
-    }
-    push_answer(told, shelf.append(step.path, piece.as_slice()))
+/// So many dots, for bytes that are read over them.
+fn dots(alloc: Global, room: u64) -> Tried<Vec<u8>> {
+    let dots = vec![in alloc; b'.'; room as usize]?;
+    Ok(dots)
 }
 
 /// The length that the shelf tells.
@@ -58,19 +60,17 @@ fn tell_length<S: Shelf>(shelf: &mut S, path: &str, told: &mut Vec<u8>) -> Tried
     }
 }
 
-/// Reads from a place on into so many dots. Tells how many bytes were read, and all that stands
-/// there then; of many bytes, whether they are a run.
+/// Reads from a place on over these bytes. Tells how many were read, and all that stands there
+/// then; of many bytes, whether they are a run.
 fn tell_part<S: Shelf>(
-    alloc: Global,
     shelf: &mut S,
     step: &Step<'_>,
+    into: &mut [u8],
     told: &mut Vec<u8>,
 ) -> Tried<()> {
     let at = number_at(step.text, 2, u64::MAX)?;
-    let room = number_at(step.text, 3, 1 << 20)?;
-    let mut into = vec![in alloc; b'.'; room as usize]?;
-    match shelf.read_at(step.path, at, &mut into) {
-        Ok(count) => tell_bytes(told, count, into.as_slice()),
+    match shelf.read_at(step.path, at, into) {
+        Ok(count) => tell_bytes(told, count, into),
         Err(refusal) => push_answer(told, Err(refusal)),
     }
 }

@@ -2,52 +2,34 @@
 use crate::commands::{Given, Line};
 use crate::stops::Worlds;
 use crate::world::World;
-use vk_cases::{Tried, Unreplayed, lines_in};
-use vk_io::{Shelf, Sink};
+use vk_cases::{Text, Tried, Unreplayed, lines_in};
+use vk_io::Shelf;
 use vk_lines::push_number_line;
 
 /// The files that are cut.
 const CUT: [&str; 3] = ["board", "challenge-0", "reply-0"];
 
 /// Tells of each of the files whether `verify` names the line at which it is cut.
-pub fn try_cuts<S: Shelf, W: Sink>(
-    shelf: &mut S,
-    out: &mut W,
-    worlds: &mut Worlds,
-    text: &mut Vec<u8>,
-) -> Tried<()> {
+pub fn try_cuts<S: Shelf>(shelf: &mut S, worlds: &mut Worlds, text: &mut Text) -> Tried<()> {
     worlds.now.begin(shelf, Given::Smallest, &[])?;
     worlds.old.take(&mut worlds.now)?;
-    for name in &CUT {
-        tell_cuts(shelf, out, worlds, text, name)?;
-    }
-    Ok(())
-}
-
-/// Tells the same of a file, which is whole in the old world.
-fn tell_cuts<S: Shelf, W: Sink>(
-    shelf: &mut S,
-    out: &mut W,
-    worlds: &mut Worlds,
-    text: &mut Vec<u8>,
-    name: &str,
-) -> Tried<()> {
-    text.clear();
     worlds.now.begin(shelf, Given::Smallest, &[])?;
-    let whole = worlds.old.files.file(name).ok_or(Unreplayed::NoCase)?;
-    push_cuts(text, &mut worlds.now, name, whole)?;
-    out.put(text.as_slice())?;
+    for name in &CUT {
+        push_cuts(worlds, text, name)?;
+    }
     Ok(())
 }
 
-/// The line of a file.
-fn push_cuts(text: &mut Vec<u8>, world: &mut World, name: &str, whole: &[u8]) -> Tried<()> {
-    text.extend_from_slice(b"cuts of ")?;
-    text.extend_from_slice(name.as_bytes())?;
-    match first_untold(world, name, whole)? {
-        None => text.extend_from_slice(b": every line told\n")?,
-        Some(kept) => push_number_line(text, b": untold behind bytes", kept)?,
+/// The line of a file, which is whole in the old world, and again in the one now.
+fn push_cuts(worlds: &mut Worlds, text: &mut Text, name: &str) -> Tried<()> {
+    let whole = worlds.old.files.file(name).ok_or(Unreplayed::NoCase)?;
+    text.put(b"cuts of ");
+    text.put(name.as_bytes());
+    match first_untold(&mut worlds.now, name, whole)? {
+        None => text.put_line(b": every line told"),
+        Some(kept) => text.put_count(b": untold behind bytes ", kept),
     }
+    worlds.now.files.put_file(name, whole)?;
     Ok(())
 }
 

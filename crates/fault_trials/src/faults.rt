@@ -3,12 +3,18 @@
 use crate::commands::{COMMANDS, Command, OTHER_KEPT, command_at};
 use crate::stops::Worlds;
 use crate::world::Outside;
-use vk_cases::Tried;
-use vk_io::{Shelf, Sink};
-use vk_lines::{end_line, push_decimal};
+use vk_cases::{Text, Tried};
+use vk_io::Shelf;
 
 /// More calls than a command makes.
 const MOST_CALLS: u64 = 100;
+
+/// A call of what is outside, by its number, from 1.
+#[derive(Clone, Copy)]
+struct Call {
+    outside: Outside,
+    number: u64,
+}
 
 /// What became of a command of which one call was to fail.
 #[derive(Clone, Copy)]
@@ -22,72 +28,37 @@ enum Fault {
 }
 
 /// Tells of each command whether each of its faults is told.
-pub fn try_faults<S: Shelf, W: Sink>(
-    shelf: &mut S,
-    out: &mut W,
-    worlds: &mut Worlds,
-    text: &mut Vec<u8>,
-) -> Tried<()> {
+pub fn try_faults<S: Shelf>(shelf: &mut S, worlds: &mut Worlds, text: &mut Text) -> Tried<()> {
     for place in 0..COMMANDS {
         if let Some(command) = command_at(place) {
-            tell_faults(shelf, out, worlds, text, &command)?;
+            push_faults(shelf, worlds, text, &command)?;
         }
     }
     Ok(())
 }
 
-/// Tells the same of a command.
-fn tell_faults<S: Shelf, W: Sink>(
-    shelf: &mut S,
-    out: &mut W,
-    worlds: &mut Worlds,
-    text: &mut Vec<u8>,
-    command: &Command,
-) -> Tried<()> {
-    text.clear();
-    push_faults(shelf, worlds, text, command)?;
-    out.put(text.as_slice())?;
-    Ok(())
-}
-
-/// The line of the command.
+/// The line of a command.
 fn push_faults<S: Shelf>(
     shelf: &mut S,
     worlds: &mut Worlds,
-    text: &mut Vec<u8>,
+    text: &mut Text,
     command: &Command,
 ) -> Tried<()> {
-    text.extend_from_slice(b"faults of ")?;
-    text.extend_from_slice(command.name.as_bytes())?;
+    text.put(b"faults of ");
+    text.put(command.name.as_bytes());
     worlds.begin(shelf, command)?;
-    push_told(shelf, worlds, text, command)?;
-    end_line(text)?;
-    Ok(())
-}
-
-/// That every call's fault was told, or else the first call whose fault was not.
-fn push_told<S: Shelf>(
-    shelf: &mut S,
-    worlds: &mut Worlds,
-    text: &mut Vec<u8>,
-    command: &Command,
-) -> Tried<()> {
-    for outside in command.outsides {
-        if let Some(call) = first_untold(shelf, worlds, command, *outside)? {
-            return push_untold(text, *outside, call);
-        }
+    match first_untold(shelf, worlds, command)? {
+        None => text.put_line(b": every call told"),
+        Some(call) => push_untold(text, call),
     }
-    text.extend_from_slice(b": every call told")?;
     Ok(())
 }
 
 /// The call whose fault was not told.
-fn push_untold(text: &mut Vec<u8>, outside: Outside, call: u64) -> Tried<()> {
-    text.extend_from_slice(b": untold at ")?;
-    text.extend_from_slice(word_of(outside))?;
-    text.extend_from_slice(b" call ")?;
-    push_decimal(text, call)?;
-    Ok(())
+fn push_untold(text: &mut Text, call: Call) {
+    text.put(b": untold at ");
+    text.put(word_of(call.outside));
+    text.put_count(b" call ", call.number);
 }
 
 fn word_of(outside: Outside) -> &'static [u8] {
@@ -98,9 +69,26 @@ fn word_of(outside: Outside) -> &'static [u8] {
     }
 }
 
-/// The first call whose fault isn't told, up to the last call that the command makes. It makes one
-/// at least.
+/// The first call whose fault isn't told.
 fn first_untold<S: Shelf>(
+    shelf: &mut S,
+    worlds: &mut Worlds,
+    command: &Command,
+) -> Tried<Option<Call>> {
+    for outside in command.outsides {
+        if let Some(number) = first_untold_of(shelf, worlds, command, *outside)? {
+            return Ok(Some(Call {
+                outside: *outside,
+                number,
+            }));
+        }
+    }
+    Ok(None)
+}
+
+/// The first call of that whose fault isn't told, up to the last call that the command makes. It
+/// makes one at least.
+fn first_untold_of<S: Shelf>(
     shelf: &mut S,
     worlds: &mut Worlds,
     command: &Command,

@@ -11,7 +11,7 @@ mod world;
 use crate::stops::Worlds;
 use std::alloc::Global;
 use std::process::ExitCode;
-use vk_cases::{Replay, Replayed, replay_here};
+use vk_cases::{Replay, Replayed, Text, replay_here};
 use vk_io::{Shelf, Sink};
 
 /// All that is put on trial.
@@ -20,21 +20,17 @@ struct FaultTrials;
 impl Replay for FaultTrials {
     fn replay<S: Shelf, W: Sink>(&self, alloc: Global, shelf: &mut S, out: &mut W) -> Replayed {
         let mut worlds = Worlds::new(alloc);
-        let mut text = Vec::new(alloc);
-        let tried = try_all(shelf, out, &mut worlds, &mut text);
-        tried
+        let mut text = Text::new(alloc);
+        let tried = try_all(shelf, &mut worlds, &mut text);
+        let printed = text.print(out);
+        printed.and(tried)
     }
 }
 
-/// Puts all on trial in these worlds.
-fn try_all<S: Shelf, W: Sink>(
-    shelf: &mut S,
-    out: &mut W,
-    worlds: &mut Worlds,
-    text: &mut Vec<u8>,
-) -> Replayed {
-    cuts::try_cuts(shelf, out, worlds, text)?;
-    faults::try_faults(shelf, out, worlds, text)
+/// Puts all on trial in these worlds, and tells of it there.
+fn try_all<S: Shelf>(shelf: &mut S, worlds: &mut Worlds, text: &mut Text) -> Replayed {
+    cuts::try_cuts(shelf, worlds, text)?;
+    faults::try_faults(shelf, worlds, text)
 }
 
 fn main(rt: HostRuntime) -> ExitCode {

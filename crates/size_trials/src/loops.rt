@@ -12,18 +12,47 @@ struct Range<'a> {
     step: &'a [u8],
 }
 
-/// Takes the blocks, before each of which stands `~`.
-pub fn take_blocks(stage: &mut Stage, steps: &[u8]) -> Tried<()> {
-    let mut rest = steps;
-    for _ in 0..steps.len() {
+/// Takes each piece of a text in this way. Between the pieces stands that mark, and behind a last
+/// mark no further piece.
+fn take_each<F: Fn(&mut Stage, &[u8]) -> Tried<()>>(
+    stage: &mut Stage,
+    text: &[u8],
+    mark: u8,
+    take: F,
+) -> Tried<()>
+    requires { F.IsAlwaysCallable take }
+{
+    let mut rest = text;
+    for _ in 0..text.len() {
         if rest.is_empty() {
             return Ok(());
         }
-        let (block, behind) = cut(rest, b'~');
-        take_block(stage, block)?;
+        let (piece, behind) = cut(rest, mark);
+        take(stage, piece)?;
         rest = behind;
     }
     Ok(())
+}
+
+/// Takes a text in this way for each number of the range.
+fn take_range<F: Fn(&mut Stage, &[u8]) -> Tried<()>>(
+    stage: &mut Stage,
+    range: &Range<'_>,
+    text: &[u8],
+    take: F,
+) -> Tried<()>
+    requires { F.IsAlwaysCallable take }
+{
+    for number in range.from..=range.to {
+        stage.numbers.put(range.letter, number)?;
+        take(stage, text)?;
+    }
+    Ok(())
+}
+
+/// Takes the blocks, before each of which stands `~`.
+pub fn take_blocks(stage: &mut Stage, steps: &[u8]) -> Tried<()> {
+    take_each(stage, steps, b'~', take_block)
 }
 
 /// Takes the lines of a block, for each number of the loop that its first line may be.
@@ -33,25 +62,12 @@ fn take_block(stage: &mut Stage, block: &[u8]) -> Tried<()> {
         return take_lines(stage, lines);
     }
     let range = range_of(stage, head)?;
-    for number in range.from..=range.to {
-        stage.numbers.put(range.letter, number)?;
-        take_lines(stage, lines)?;
-    }
-    Ok(())
+    take_range(stage, &range, lines, take_lines)
 }
 
 /// Takes the lines of a block once.
 fn take_lines(stage: &mut Stage, lines: &[u8]) -> Tried<()> {
-    let mut rest = lines;
-    for _ in 0..lines.len() {
-        if rest.is_empty() {
-            return Ok(());
-        }
-        let (line, behind) = cut(rest, b'\n');
-        take_line(stage, line)?;
-        rest = behind;
-    }
-    Ok(())
+    take_each(stage, lines, b'\n', take_line)
 }
 
 /// Takes a line, which may be empty or a comment, that begins with `#`. Before its steps may stand
@@ -60,45 +76,28 @@ fn take_line(stage: &mut Stage, line: &[u8]) -> Tried<()> {
     match line.first() {
         None | Some(b'#') => Ok(()),
         Some(b'*') => take_outer(stage, line),
-        Some(_) => take_each(stage, line),
+        Some(_) => take_steps(stage, line),
     }
 }
 
 /// Takes a line for each number of its first loop.
 fn take_outer(stage: &mut Stage, line: &[u8]) -> Tried<()> {
     let range = range_of(stage, line)?;
-    for number in range.from..=range.to {
-        stage.numbers.put(range.letter, number)?;
-        take_inner(stage, range.step)?;
-    }
-    Ok(())
+    take_range(stage, &range, range.step, take_inner)
 }
 
 /// Takes a line for each number of its second loop, where it has one.
 fn take_inner(stage: &mut Stage, line: &[u8]) -> Tried<()> {
     if line.first() != Some(&b'*') {
-        return take_each(stage, line);
+        return take_steps(stage, line);
     }
     let range = range_of(stage, line)?;
-    for number in range.from..=range.to {
-        stage.numbers.put(range.letter, number)?;
-        take_each(stage, range.step)?;
-    }
-    Ok(())
+    take_range(stage, &range, range.step, take_steps)
 }
 
 /// Takes the steps of a line, between which stands `;`.
-fn take_each(stage: &mut Stage, steps: &[u8]) -> Tried<()> {
-    let mut rest = steps;
-    for _ in 0..steps.len() {
-        if rest.is_empty() {
-            return Ok(());
-        }
-        let (step, behind) = cut(rest, b';');
-        take_step(stage, step)?;
-        rest = behind;
-    }
-    Ok(())
+fn take_steps(stage: &mut Stage, steps: &[u8]) -> Tried<()> {
+    take_each(stage, steps, b';', take_step)
 }
 
 /// The loop at the front of a line, `*LETTER FROM TO`.

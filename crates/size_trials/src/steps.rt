@@ -1,7 +1,7 @@
 // The steps.
 use crate::digests::{push_commitment, push_derived, push_digests};
 use crate::stage::Stage;
-use crate::texts::{push_fields, push_numbered};
+use crate::texts::push_filled;
 use vk_cases::{Text, Tried, Unreplayed, behind, cut, number_at, text_in, word_at};
 
 /// Takes a step that stands behind no loop. Before it may stand `?EXPRESSION`: then it is taken
@@ -49,8 +49,8 @@ fn take_due(stage: &mut Stage, step: &[u8]) -> Tried<()> {
 
 /// Takes a step whose places are filled there: what an error drops takes seconds to prove.
 fn take_made(stage: &mut Stage, step: &[u8], numbered: &mut Text, made: &mut Text) -> Tried<()> {
-    push_numbered(numbered, &stage.numbers, step)?;
-    push_fields(made, &stage.files, numbered.bytes()?)?;
+    push_filled(numbered, &stage.numbers, step)?;
+    push_filled(made, &stage.files, numbered.bytes()?)?;
     take_filled(stage, made.bytes()?)
 }
 

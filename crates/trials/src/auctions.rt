@@ -63,7 +63,9 @@ fn push_tried(bench: &mut Bench, text: &mut Text, auction: &Auction<'_>) -> Trie
     push_extracted(bench, text, auction, Asked::Ones)?;
     push_extracted(bench, text, auction, Asked::Last)?;
     bench.run(text, b"report board")?;
-    push_reported(bench, text, auction, sizes)
+    bench.wanted.clear();
+    push_report(&mut bench.wanted, auction, sizes);
+    push_reported(bench, text)
 }
 
 /// The counts of the auction.
@@ -133,14 +135,7 @@ fn push_sale(text: &mut Text, auction: &Auction<'_>) {
 
 /// What `report` says of the board; or, where this is the report that is wanted, that it is as
 /// published.
-fn push_reported(
-    bench: &mut Bench,
-    text: &mut Text,
-    auction: &Auction<'_>,
-    sizes: Sizes,
-) -> Tried<()> {
-    bench.wanted.clear();
-    push_report(&mut bench.wanted, auction, sizes);
+fn push_reported(bench: &Bench, text: &mut Text) -> Tried<()> {
     let printed = bench.said();
     if printed == bench.wanted.bytes()? {
         text.put(b"as published\n");

@@ -129,24 +129,17 @@ fn pairs_of(size: u32) -> u32
 fn is_shown_by(alloc: Global, circuit: &MatchingPlan, ranks: &[u64], pairs: u32) -> Tried<bool>
     requires { pairs ≤ 6 }
 {
-    let plan = circuit.plan(alloc)?;
-    are_all_shown(alloc, &plan, ranks, pairs)
-}
-
-/// Whether the plan shows of each of so many pairs at these ranks that it doesn't block.
-fn are_all_shown(alloc: Global, plan: &Plan, ranks: &[u64], pairs: u32) -> Tried<bool>
-    requires { pairs ≤ 6 }
-{
-    let mut values = values_of(alloc, ranks, plan.wires())?;
-    are_shown(plan, values.as_mut_slice(), pairs)
+    let mut ranked = at_ranks(alloc, circuit, ranks)?;
+    let are_shown = are_shown(&mut ranked, pairs);
+    are_shown
 }
 
 /// Whether both forms of each of so many pairs are in their ranges.
-fn are_shown(plan: &Plan, values: &mut [Residue], pairs: u32) -> Tried<bool>
+fn are_shown(ranked: &mut Ranked, pairs: u32) -> Tried<bool>
     requires { pairs ≤ 6 }
 {
     for pair in 0..pairs {
-        let forms = forms_of(plan, values, WIDTH, pair)?;
+        let forms = forms_of(ranked, WIDTH, pair)?;
         if pair_value(&forms, WIDTH).is_none() {
             return Ok(false);
         }
@@ -196,16 +189,24 @@ fn forms_in(alloc: Global, case: &[u8], width: u32) -> Tried<Forms>
 fn forms_by(alloc: Global, circuit: &MatchingPlan, ranks: &[u64], width: u32) -> Tried<Forms>
     requires { width ≤ 16 }
 {
-    let plan = circuit.plan(alloc)?;
-    forms_at(alloc, &plan, ranks, width)
+    let mut ranked = at_ranks(alloc, circuit, ranks)?;
+    let forms = forms_of(&mut ranked, width, 0);
+    forms
 }
 
-/// The forms of the plan's first pair at these ranks.
-fn forms_at(alloc: Global, plan: &Plan, ranks: &[u64], width: u32) -> Tried<Forms>
-    requires { width ≤ 16 }
-{
-    let mut values = values_of(alloc, ranks, plan.wires())?;
-    forms_of(plan, values.as_mut_slice(), width, 0)
+/// The plan of a matching, and the values of its wires: the ranks, and 0 for each wire that is no
+/// input.
+#[derive(Drop)]
+struct Ranked {
+    plan: Plan,
+    values: Vec<Residue>,
+}
+
+/// The circuit's plan at these ranks.
+fn at_ranks(alloc: Global, circuit: &MatchingPlan, ranks: &[u64]) -> Tried<Ranked> {
+    let plan = circuit.plan(alloc)?;
+    let values = values_of(alloc, ranks, plan.wires())?;
+    Ok(Ranked { plan, values })
 }
 
 /// The two forms of a pair's relation, where the wire of its own is 0, and where it is 1.
@@ -216,22 +217,22 @@ struct Forms {
 }
 
 /// The forms of the relation of a pair, from 0, whose sets are 0.
-fn forms_of(plan: &Plan, values: &mut [Residue], width: u32, pair: u32) -> Tried<Forms>
+fn forms_of(ranked: &mut Ranked, width: u32, pair: u32) -> Tried<Forms>
     requires width { width ≤ 16 }
     requires pair { pair ≤ 6 }
 {
-    let inputs = plan.inputs();
+    let inputs = ranked.plan.inputs();
     if 18 < inputs {
         return Err(Unreplayed::NoCase);
     }
     let wire = ((2 + width) * inputs + pair * (2 * width + 3)) as usize;
-    if values.len() <= wire {
+    if ranked.values.len() <= wire {
         return Err(Unreplayed::NoCase);
     }
     let row = 2 * inputs + 2 * pair;
-    let zero = two_rows(plan, row, values)?;
-    values[wire] = Residue::ONE;
-    let one = two_rows(plan, row, values)?;
+    let zero = two_rows(&ranked.plan, row, ranked.values.as_slice())?;
+    ranked.values[wire] = Residue::ONE;
+    let one = two_rows(&ranked.plan, row, ranked.values.as_slice())?;
     Ok(Forms { zero, one })
 }
 

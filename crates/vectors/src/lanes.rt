@@ -27,12 +27,26 @@ struct Seen {
     again: LaneView,
 }
 
+/// A case with the circuit and the tape of its lane.
+#[derive(Drop)]
+struct LaneCase<'a> {
+    case: &'a [u8],
+    circuit: VickreyPlan,
+    tape: LaneTape,
+}
+
 /// The case with the values of both lists of bids behind these, and what is seen of the lane.
 pub fn put_lane(alloc: Global, text: &mut Text, case: &[u8]) -> Tried<()> {
     let circuit = circuit_of(part_at(case, b'|', 0)?)?;
     put_parts(text, case, 0, 3)?;
     let tape = tape_in(alloc, case)?;
-    put_with_tape(alloc, text, case, &circuit, &tape)
+    let lane = LaneCase {
+        case,
+        circuit,
+        tape,
+    };
+    let put = put_with_tape(alloc, text, &lane);
+    put
 }
 
 /// The parts of the case from one place to before another, a line each.
@@ -74,54 +88,52 @@ fn put_tapes(wires: &mut Seq<WireTape>, case: &[u8]) -> Tried<()> {
     Ok(())
 }
 
-/// The values of both lists of bids, and what is seen of the lane with this tape.
-fn put_with_tape(
-    alloc: Global,
-    text: &mut Text,
-    case: &[u8],
-    circuit: &VickreyPlan,
-    tape: &LaneTape,
-) -> Tried<()> {
-    let plan = circuit.plan(alloc)?;
-    put_with_plan(alloc, text, case, circuit, &plan, tape)
+/// The values of both lists of bids, and what is seen of the lane.
+fn put_with_tape(alloc: Global, text: &mut Text, lane: &LaneCase<'_>) -> Tried<()> {
+    let plan = lane.circuit.plan(alloc)?;
+    put_with_plan(alloc, text, lane, &plan)
 }
 
 /// The values of both lists of bids, and what is seen of the lane of this plan.
-fn put_with_plan(
-    alloc: Global,
-    text: &mut Text,
-    case: &[u8],
-    circuit: &VickreyPlan,
-    plan: &Plan,
-    tape: &LaneTape,
-) -> Tried<()>
-    requires { plan.now ≡ vickrey_plan circuit.now.seals circuit.now.width circuit.now.position
-        circuit.now.price }
+fn put_with_plan(alloc: Global, text: &mut Text, lane: &LaneCase<'_>, plan: &Plan) -> Tried<()>
+    requires { let circuit = lane.now.circuit in plan.now
+        ≡ vickrey_plan circuit.seals circuit.width circuit.position circuit.price }
 {
-    if tape.wires.len() != plan.wires() as usize {
+    if lane.tape.wires.len() != plan.wires() as usize {
         return Err(Unreplayed::NoCase);
     }
-    let values = values_in(alloc, circuit, part_at(case, b'|', 1)?, b"bids")?;
-    put_with_values(alloc, text, case, circuit, plan, tape, values.as_slice())
+    let values = values_in(alloc, &lane.circuit, part_at(lane.case, b'|', 1)?, b"bids")?;
+    put_with_values(alloc, text, lane, plan, values.as_slice())
 }
 
 /// The values of both lists of bids, of which these are the first, and what is seen of the lane.
 fn put_with_values(
     alloc: Global,
     text: &mut Text,
-    case: &[u8],
-    circuit: &VickreyPlan,
+    lane: &LaneCase<'_>,
     plan: &Plan,
-    tape: &LaneTape,
     values: &[Residue],
 ) -> Tried<()>
-    requires plan { plan.now ≡ vickrey_plan circuit.now.seals circuit.now.width
-        circuit.now.position circuit.now.price }
+    requires plan { let circuit = lane.now.circuit in plan.now
+        ≡ vickrey_plan circuit.seals circuit.width circuit.position circuit.price }
     requires values { Holds plan.now values.now }
-    requires one_each { length tape.now.wires ≡ length plan.now.kinds }
+    requires one_each { length lane.now.tape.wires ≡ length plan.now.kinds }
 {
-    let others = values_in(alloc, circuit, part_at(case, b'|', 2)?, b"others")?;
-    put_looks(alloc, text, case, plan, tape, values, others.as_slice())
+    let others = values_in(
+        alloc,
+        &lane.circuit,
+        part_at(lane.case, b'|', 2)?,
+        b"others",
+    )?;
+    put_looks(
+        alloc,
+        text,
+        lane.case,
+        plan,
+        &lane.tape,
+        values,
+        others.as_slice(),
+    )
 }
 
 /// The values of all wires for the bids behind that word.

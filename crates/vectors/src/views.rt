@@ -8,6 +8,15 @@ use vk_residue::Residue;
 use vk_views::moved_wire;
 use vk_wire::{WireTape, show};
 
+/// A wire with its value, the value that it might have as well, and its tape.
+#[derive(Clone, Copy)]
+struct Wire {
+    kind: WireKind,
+    value: Residue,
+    other: Residue,
+    tape: WireTape,
+}
+
 /// The case, the tape moved for either bit, and what the wire shows for either bit.
 pub fn put_view(text: &mut Text, case: &[u8]) -> Tried<()> {
     put_words(text, case, 6, 6, 11)?;
@@ -15,50 +24,42 @@ pub fn put_view(text: &mut Text, case: &[u8]) -> Tried<()> {
     let value = value_at(case, 3, kind)?;
     let other = value_at(case, 5, kind)?;
     let tape = tape_of(case, 6)?;
-    put_move(text, kind, value, other, &tape, false);
-    put_move(text, kind, value, other, &tape, true);
-    put_bit(text, kind, value, other, &tape, false);
-    put_bit(text, kind, value, other, &tape, true);
+    let wire = Wire {
+        kind,
+        value,
+        other,
+        tape,
+    };
+    put_move(text, &wire, false);
+    put_move(text, &wire, true);
+    put_bit(text, &wire, false);
+    put_bit(text, &wire, true);
     Ok(())
 }
 
 /// The tape moved for the bit.
-fn put_move(
-    text: &mut Text,
-    kind: WireKind,
-    value: Residue,
-    other: Residue,
-    tape: &WireTape,
-    bit: bool,
-) {
+fn put_move(text: &mut Text, wire: &Wire, bit: bool) {
     text.put(if bit { b"moved1" } else { b"moved0" });
-    let moved = moved_wire(kind, value, other, bit, *tape);
+    let moved = moved_wire(wire.kind, wire.value, wire.other, bit, wire.tape);
     put_moved(text, &moved);
 }
 
 /// What the wire shows for the bit, and a line where the other value shows otherwise or the tape
 /// doesn't move back.
-fn put_bit(
-    text: &mut Text,
-    kind: WireKind,
-    value: Residue,
-    other: Residue,
-    tape: &WireTape,
-    bit: bool,
-)
-    requires weight { HasWeight kind }
-    requires value { MayHave kind value }
-    requires other { MayHave kind other }
+fn put_bit(text: &mut Text, wire: &Wire, bit: bool)
+    requires weight { HasWeight wire.now.kind }
+    requires value { MayHave wire.now.kind wire.now.value }
+    requires other { MayHave wire.now.kind wire.now.other }
 {
-    let shown = show(kind, value, tape, bit);
+    let shown = show(wire.kind, wire.value, &wire.tape, bit);
     text.put(if bit { b"shown1" } else { b"shown0" });
     put_shown(text, &shown);
     text.put(b"\n");
-    let moved = moved_wire(kind, value, other, bit, *tape);
-    if show(kind, other, &moved, bit) != shown {
+    let moved = moved_wire(wire.kind, wire.value, wire.other, bit, wire.tape);
+    if show(wire.kind, wire.other, &moved, bit) != shown {
         text.put_line(b"the other value shows otherwise");
     }
-    if moved_wire(kind, other, value, bit, moved) != *tape {
+    if moved_wire(wire.kind, wire.other, wire.value, bit, moved) != wire.tape {
         text.put_line(b"the tape does not move back");
     }
 }
