@@ -3,17 +3,11 @@
 //! files. Of each case it prints what came.
 #![tactic(auto)]
 
-mod commands;
-mod lent;
-mod sessions;
-mod stopping;
-mod stores;
-mod texts;
-
 use std::alloc::Global;
 use std::process::ExitCode;
 use vk_cases::{Form, Tried, replay_forms};
 use vk_io::Shelf;
+use vk_store_cases::{change_text, file_text, house_text, stop_text};
 
 /// What a file of cases has, one case a line.
 enum Cases {
@@ -46,10 +40,10 @@ impl Form for Cases {
 
     fn text<S: Shelf>(&self, alloc: Global, shelf: &mut S, case: &[u8]) -> Tried<Vec<u8>> {
         match self {
-            Cases::Houses => sessions::house_text(alloc, case),
-            Cases::Changes => sessions::change_text(alloc, case),
-            Cases::Files => sessions::file_text(alloc, shelf, case),
-            Cases::Stops => stopping::stop_text(alloc, case),
+            Cases::Houses => house_text(alloc, case),
+            Cases::Changes => change_text(alloc, case),
+            Cases::Files => file_text(alloc, shelf, case),
+            Cases::Stops => stop_text(alloc, case),
         }
     }
 }
