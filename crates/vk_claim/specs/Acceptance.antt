@@ -6,7 +6,7 @@ use Rattle.vk_judge.specs.FileForms.{Accepts, Form, Fronts, JudgedHolds}
 use Rattle.vk_judge.specs.Refusals.{BeginsWith}
 use Rattle.vk_claim.specs.declared.claim.ClaimRefusal.{ClaimRefusal}
 use Rattle.vk_claim.specs.declared.claim.ClaimRefusal.TheVariants.{Public}
-use Rattle.vk_claim.specs.declared.front.ClaimFront.{ClaimFront}
+use Rattle.vk_claim.specs.declared.head.ClaimFront.{ClaimFront}
 use Rattle.vk_claim.specs.declared.head.ClaimHead.{ClaimHead}
 use Rattle.vk_claim.specs.declared.verdict.ClaimVerdict.{ClaimVerdict}
 use Rattle.vk_claim.specs.Values.{IsClaimFront, Plans, plan_for, shape_for}

@@ -1,13 +1,14 @@
-// The head of a claim file.
+// What stands in a claim file before its first lane: the head, and the seals.
 ghost use Rattle.std.specs.Prelude.{◌≡◌, ◌++◌, ◌∷◌, [], codes, decimal, IfOk, OnOk};
 ghost use Rattle.std.specs.List.{flat_map};
 ghost use Rattle.vk_judge.specs.Common.{Reads, ReadsRight, line, line_by, spaced};
-ghost use Rattle.vk_claim.specs.Values.{AreNumbers, IsClaimHead};
+ghost use Rattle.vk_claim.specs.Values.{AreNumbers, IsClaimFront, IsClaimHead};
 ghost use Rattle.vk_claim.specs.Texts.{claim_head_text, numbers_text};
-ghost use Rattle.vk_claim.specs.Reading.{claim_head_at, kind_line, numbers_at};
+ghost use Rattle.vk_claim.specs.Reading.{claim_front_at, claim_head_at, kind_line, numbers_at};
 ghost use Rattle.vk_words.specs.Claims.{kind_word};
 
 use std::alloc::Global;
+use vk_board::{SealLines, read_seal_lines};
 use vk_io::Shelf;
 use vk_lines::{
     LineKind, Lines, ReadErr, behind_word, one_field, push_hex_line, push_line, push_number_line,
@@ -54,6 +55,30 @@ impl ClaimHead {
             numbers,
         })
     }
+}
+
+/// What stands in a claim file before its first lane.
+#[derive(Debug, Drop)]
+pub struct ClaimFront {
+    pub head: ClaimHead,
+    /// A seal for each input.
+    pub seals: Seq<SealLines>,
+}
+
+/// Reads the lines of a claim file before its first lane. Malformed carries the number of the first
+/// line that isn't what its place demands; a seat that an earlier seal has is a fault at its line.
+#[tactic(auto, unfolding(crate::specs::Reading::claim_front_at))]
+pub fn read_claim_front<S: Shelf>(
+    alloc: Global,
+    shelf: &mut S,
+    lines: &mut Lines,
+) -> Result<ClaimFront, ReadErr>
+    ensures reads { ReadsRight claim_front_at IsClaimFront S.held S.Shelf.faults
+        lines.old lines.new shelf.old shelf.new result }
+{
+    let head = ClaimHead::read(alloc, shelf, lines)?;
+    let seals = read_seal_lines(alloc, shelf, lines, head.inputs, head.lanes)?;
+    Ok(ClaimFront { head, seals })
 }
 
 /// Reads the line of a kind.

@@ -13,7 +13,7 @@ use Rattle.vk_bids.specs.Soundness.{TellsTwoOpenings}
 use Rattle.vk_bids.specs.Texts.{agreements_text, clash_text}
 use Rattle.vk_bids.proofs.Soundness.{seat_lines}
 use Rattle.vk_bids.proofs.Standing.{clash_stands}
-use Rattle.vk_claim.specs.declared.front.ClaimFront.{ClaimFront}
+use Rattle.vk_claim.specs.declared.head.ClaimFront.{ClaimFront}
 use Rattle.vk_claim.specs.declared.head.ClaimHead.{ClaimHead}
 use Rattle.vk_words.specs.declared.claim.Kind.{Kind}
 use Rattle.vk_claim.specs.Extraction.{IsClaimOpened, OpenedClaim, TwoClaimsAccepted}
