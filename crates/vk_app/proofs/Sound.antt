@@ -5,9 +5,8 @@ use Rattle.std.specs.Prelude.{◌⊎◌, codes, if◌then◌else◌, length, opt
 use Rattle.vk_residue.specs.Steps.{◌>>?◌}
 use Rattle.vk_io.specs.Files.{Files, Modelled}
 use Rattle.vk_keeper.specs.Ledgers.{Ledger}
-use Rattle.vk_reply.specs.declared.challenge.Challenge.{Challenge}
-use Rattle.vk_reply.specs.Texts.{challenge_text}
-use Rattle.vk_bids.specs.FileHeadline.{IsClashOf}
+use Rattle.vk_judge.specs.FileForms.{Fronts, bits_of}
+use Rattle.vk_bids.specs.FileHeadline.{IsClashOf, TwoAccepted}
 use Rattle.vk_bids.specs.Headline.{IsExtraction, IsExtractionClash, differing}
 use Rattle.vk_bids.specs.Soundness.{BeginsWithFront, TellsBids, TellsTwoOpenings}
 use Rattle.vk_bids.specs.Texts.{clash_text, extraction_text}
@@ -164,26 +163,29 @@ not_stopped status (inr three_is) = (λ six_is. omega arith, λ nine_is. omega a
 
 module _ (files : Files) (status : ℕ) (old new : Option (List ℕ)) where
   -- where files that are held begin so, and are such challenges
-  printed_of : {F : Type 0} {Begins : List ℕ → F → Type 0} {id_of : F → List ℕ}
-      {Tells : F → List ℕ → List ℕ → Type 0} {names : ExtractWords}
-      (held : HoldsFiles files names) (front : F) (first second : Challenge)
-      → Begins held.file_bytes front → held.first.challenge_bytes ≡ challenge_text first
-      → held.second.challenge_bytes ≡ challenge_text second
-      → (status ≡ 0 → Prints (Tells front (differing 1 first.bits second.bits)) old new)
-      → (status ≡ 3 → Prints (TellsTwoOpenings held.file_bytes (id_of front)) old new)
+  printed_of : {F G : Type 0} {fronts : Fronts G} {Begins : List ℕ → F → Type 0}
+      {id_of : F → List ℕ} {Tells : F → List ℕ → List ℕ → Type 0} {names : ExtractWords}
+      {P Q : Type 0} (held : HoldsFiles files names) (two : TwoAccepted fronts held.file_bytes
+      held.first.challenge_bytes held.first.reply_bytes held.second.challenge_bytes
+      held.second.reply_bytes) (front : F)
+      → Begins held.file_bytes front → ((status ≡ 0) × P) ⊎ ((status ≡ 3) × Q)
+      → (P → Prints (Tells front (differing 1 (bits_of two.first) (bits_of two.second))) old new)
+      → (Q → Prints (TellsTwoOpenings held.file_bytes (id_of front)) old new)
       → PrintsOf Begins id_of Tells files names.board names.first.challenge names.second.challenge
       status old new
-  printed_of held front first second begins first_is second_is found clash = record {
+  printed_of held two front begins ends found clash = record {
     file = held.file_bytes;
     front = front;
-    first = first;
-    second = second;
+    first = two.first.behind.challenge;
+    second = two.second.behind.challenge;
     file_is = held.file_is.is;
     begins = begins;
-    first_is = held.first.challenge_is.is ∙ ap (λ bytes. Some bytes) first_is;
-    second_is = held.second.challenge_is.is ∙ ap (λ bytes. Some bytes) second_is;
-    found = found;
-    clash = clash;
+    first_is = held.first.challenge_is.is
+        ∙ ap (λ bytes. Some bytes) two.first.behind.challenge_is.0;
+    second_is = held.second.challenge_is.is
+        ∙ ap (λ bytes. Some bytes) two.second.behind.challenge_is.0;
+    found = λ zero_is. found (done_is _ _ status ends zero_is);
+    clash = λ three_is. clash (clash_is _ _ status ends three_is);
   }
 
   bids_printed : (names : ExtractWords) (accepted : AcceptsTwoFiles files names)
@@ -191,14 +193,10 @@ module _ (files : Files) (status : ℕ) (old new : Option (List ℕ)) where
       → PrintsOf BeginsWithFront (λ front. front.head.auction) TellsBids files names.board
       names.first.challenge names.second.challenge status old new
   bids_printed names accepted extracted =
-      let two = accepted.two in
-      printed_of accepted.held two.first.front two.first.behind.challenge
-      two.second.behind.challenge (begins_with_front two.first) two.first.behind.challenge_is.0
-      two.second.behind.challenge_is.0
-      (λ zero_is. prints_as (IsExtraction two) extraction_text _ (bids_are_told two) old new
-      (done_is _ _ status extracted zero_is))
-      (λ three_is. prints_as (IsExtractionClash two) clash_text _ (clash_is_told two) old new
-      (clash_is _ _ status extracted three_is))
+      printed_of accepted.held accepted.two accepted.two.first.front
+      (begins_with_front accepted.two.first) extracted
+      (prints_as (IsExtraction accepted.two) extraction_text _ (bids_are_told accepted.two) old new)
+      (prints_as (IsExtractionClash accepted.two) clash_text _ (clash_is_told accepted.two) old new)
 
   values_printed : (names : ExtractWords) (accepted : AcceptsTwoClaims files names)
       → IsClaimExtracted accepted.two status old new
@@ -206,13 +204,10 @@ module _ (files : Files) (status : ℕ) (old new : Option (List ℕ)) where
       names.first.challenge names.second.challenge status old new
   values_printed names accepted extracted =
       let two = accepted.two in
-      printed_of accepted.held two.first.front.front two.first.behind.challenge
-      two.second.behind.challenge (begins_with_claim two) two.first.behind.challenge_is.0
-      two.second.behind.challenge_is.0
-      (λ zero_is. prints_as (IsClaimOpened admitted_plan claimed two) claim_extraction_text _
-      (values_are_told two) old new (done_is _ _ status extracted zero_is))
-      (λ three_is. prints_as (IsClashOf two) clash_text _ (opened.clash_is_told two) old new
-      (clash_is _ _ status extracted three_is))
+      printed_of accepted.held two two.first.front.front (begins_with_claim two) extracted
+      (prints_as (IsClaimOpened admitted_plan claimed two) claim_extraction_text _
+      (values_are_told two) old new)
+      (prints_as (IsClashOf two) clash_text _ (opened.clash_is_told two) old new)
 
 -- ---- at its end
 

@@ -49,10 +49,7 @@ pub fn submit<S: Shelf, K: Keeper + Drop>(
         (S.Shelf.faults shelf.new) (K.faults keeper.old) (K.faults keeper.new) }
 {
     match row(alloc, shelf, names) {
-        Ok(row) => {
-            let said = hand_in(alloc, keeper, id, row);
-            said
-        }
+        Ok(row) => hand_in(alloc, keeper, id, row),
         Err(unread) => unread.said_or_stopped(),
     }
 }

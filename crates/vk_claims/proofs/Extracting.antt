@@ -66,9 +66,9 @@ module _ (files : Files) (names : ExtractWords) where
 
 pub tells_claim_extractions : TellsClaimExtractions
 tells_claim_extractions files names =
-    answered_tells files (name_of names) extract_parts (HasClaimExtraction files names)
-    (answer files names) (answer_unread files names) (claim_extraction_said names) SettlesExtract
-    (answer_alone files names) (answer_holds files names)
+    answered_tells files (name_of names) extract_parts _ _ (answer_unread files names)
+    (claim_extraction_said names) SettlesExtract (answer_alone files names)
+    (answer_holds files names)
 
 -- ---- the status and the text
 

@@ -10,6 +10,6 @@ returns-in-Ok-clause-acts g c =
     (λ files. row_in files c.args.names.seal.now c.args.names.secret.now)
     c.in-Ok.row
     (g.S.Shelf.held c.args.shelf.now) (g.S.Shelf.held c.row.new.shelf) _ _ _
-    c.hand_in-said.result
+    c.hand_in.result
     c.in-Ok.ensures.shelf.held c.in-Ok.ensures.modelled
-    (c.hand_in-said.ensures.acts (g.S.Shelf.held c.row.new.shelf))
+    (c.hand_in.ensures.acts (g.S.Shelf.held c.row.new.shelf))
