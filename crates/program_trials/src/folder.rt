@@ -1,14 +1,11 @@
 // The program over the folder that it runs in, whose house is one file.
-use crate::making::make;
-use crate::seeing::see;
 use std::fs;
-use std::rt::Files;
 use vk_cases::{
     Stage, Tried, Unreplayed, behind, behind_word, status_of, tell_text, text_at, text_in, words_of,
 };
-use vk_files::{FileShelf, OutSink};
+use vk_folder_cases::{make, see};
 use vk_lines::push_decimal;
-use vk_program::{HousePlace, STORE, StoreHouse, program};
+use vk_program::{HousePlace, StoreHouse, run_over};
 
 /// What the commands of a trial leave in the folder.
 const LEFT: [&str; 14] = [
@@ -34,20 +31,6 @@ pub struct Folder<'a> {
     pub rt: &'a HostRuntime,
 }
 
-/// With which status the program of these words ends over that house and the files that `rt`
-/// reaches, where the first word stands for the program's name. It is generic since a shelf over
-/// those of the system is dearer to drop.
-fn status_over<R: Eprint + Print + AllocGlobal + Files, H: HousePlace>(
-    rt: &R,
-    words: Vec<String>,
-    house: H,
-) -> u64 {
-    let mut shelf = FileShelf::new(rt, rt.alloc(), STORE);
-    let mut out = OutSink::new(rt);
-    let (code, _house) = program(Ok(words.into_iter()), rt, house, &mut shelf, &mut out);
-    status_of(code)
-}
-
 impl Folder<'_> {
     /// Takes away what a trial left.
     pub fn clear(&self) {
@@ -60,8 +43,8 @@ impl Folder<'_> {
     /// Runs the program of a step's words, and tells with which status it ends.
     fn run(&self, step: &[u8], told: &mut Vec<u8>) -> Tried<()> {
         let words = words_of(self.rt.alloc(), step)?;
-        let status = status_over(self.rt, words, StoreHouse::of(self.rt));
-        Ok(push_decimal(told, status)?)
+        let code = run_over(self.rt, Ok(words.into_iter()), StoreHouse::of(self.rt));
+        Ok(push_decimal(told, status_of(code))?)
     }
 
     /// Runs it while another keeper has the house open, which is closed then.

@@ -3,8 +3,6 @@
 #![tactic(auto)]
 
 mod folder;
-mod making;
-mod seeing;
 
 use crate::folder::Folder;
 use std::alloc::Global;

@@ -4,7 +4,7 @@ ghost use Rattle.std.specs.Prelude.{◌≡◌, ◌⊎◌, ℕ, List, drop, map, 
 ghost use Rattle.std.specs.Process.{exit_status};
 ghost use Rattle.std.specs.Vec.Iter.{into_iter_steps};
 ghost use Rattle.vk_program.specs.Houses.{CausesUnopened, told_by};
-ghost use Rattle.vk_program.specs.Runs.{IsRefused, ProgramKeeps, RunKeeps, SettledKeeps, met};
+ghost use Rattle.vk_program.specs.Runs.{IsRefused, ProgramKeeps, SettledKeeps, met};
 ghost use Rattle.vk_program.specs.Words.{AreWordsBehind, AreYielded};
 
 use crate::ending::{advise, end, explain, refuse, with_refusal};
@@ -16,7 +16,7 @@ use std::env::Args;
 use std::io::{self, ErrorKind};
 use std::process::ExitCode;
 use vk_app::run;
-use vk_io::{Shelf, Sink};
+use vk_io::Sink;
 use vk_keeper::Keeper;
 use vk_residue::NoMemory;
 use vk_words::may_ask_house;
@@ -50,28 +50,10 @@ fn behind_first(words: &[String]) -> &[String]
     }
 }
 
-/// Does what the words say over the shelf and the keeper, prints to the sink, and ends with the
-/// status. What `run` promises of its status holds of the program's.
-fn perform<R: Eprint + AllocGlobal, S: Shelf, K: Keeper + Drop, W: Sink>(
-    rt: &R,
-    words: &[String],
-    shelf: &mut S,
-    keeper: &mut K,
-    out: &mut W,
-) -> ExitCode
-    ensures { RunKeeps (map string_bytes words.now) (exit_status result)
-        (met (S.held shelf.old) (S.Shelf.faults shelf.old) (K.ledger keeper.old)
-        (K.Keeper.faults keeper.old) (W.taken out.old) (W.Sink.faults out.old))
-        (met (S.held shelf.new) (S.Shelf.faults shelf.new) (K.ledger keeper.new)
-        (K.Keeper.faults keeper.new) (W.taken out.new) (W.Sink.faults out.new)) }
-{
-    let status = run(rt.alloc(), words, shelf, keeper, out);
-    end(rt, status)
-}
-
-/// Does the same, sees that what was written last is where it belongs, and says what a person can
-/// mend.
-fn perform_settled<R: Eprint + AllocGlobal, S: Settle, K: Keeper + Drop, W: Sink>(
+/// Does what the words say over the files and the keeper, prints to the sink, and sees that what
+/// was written last is where it belongs. What `run` promises of its status holds of the program's,
+/// where that last doesn't tell of a fault. Says what a person can mend.
+fn perform<R: Eprint + AllocGlobal, S: Settle, K: Keeper + Drop, W: Sink>(
     rt: &R,
     words: &[String],
     files: &mut S,
@@ -84,7 +66,8 @@ fn perform_settled<R: Eprint + AllocGlobal, S: Settle, K: Keeper + Drop, W: Sink
         (met (S.held files.new) (S.Shelf.faults files.new) (K.ledger keeper.new)
         (K.Keeper.faults keeper.new) (W.taken out.new) (W.Sink.faults out.new)) }
 {
-    let ran = perform(rt, words, files, keeper, out);
+    let status = run(rt.alloc(), words, files, keeper, out);
+    let ran = end(rt, status);
     let settled = files.settle();
     let code = with_refusal(rt, ran, settled);
     advise(rt, code, words, files.last_fault());
@@ -125,7 +108,7 @@ fn perform_asking<R: Eprint + AllocGlobal, H: HousePlace, S: Settle, W: Sink>(
     if let Err(refusal) = open_asked(words, keeper) {
         return refuse(rt, refusal);
     }
-    let code = perform_settled(rt, words, files, keeper, out);
+    let code = perform(rt, words, files, keeper, out);
     if let Some(refusal) = keeper.refusal() {
         explain(rt, refusal);
     }
