@@ -1,5 +1,5 @@
 -- What the program promises: all that `run` does, of the house itself, and what comes behind.
-use Rattle.std.specs.Prelude.{◌≡◌, ◌≢◌, ◌⊎◌, ℕ, List, Option, Some, IfSome, Result, Err}
+use Rattle.std.specs.Prelude.{◌≡◌, ◌≢◌, ◌⊎◌, ℕ, List, Option, None, Some, IfSome, Result, Err, String}
 use Rattle.vk_io.specs.Faults.{Causes, Rose}
 use Rattle.vk_io.specs.Files.{Files, Modelled}
 use Rattle.vk_io.specs.declared.errors.OutsideErr.{OutsideErr}
@@ -17,6 +17,7 @@ use Rattle.vk_app.specs.Promises.{Audits, ClaimExtractIsComplete, ClaimExtractIs
 use Rattle.vk_app.specs.Sealing.{Seals}
 use Rattle.vk_program.specs.Refusals.{stopped_status}
 use Rattle.vk_program.specs.Statuses.{status_behind}
+use Rattle.vk_program.specs.Words.{AreWordsBehind}
 
 -- the files, the auctions of the house and the text, as far as they are modelled, and how many
 -- faults were met with each
@@ -104,3 +105,13 @@ pub record ProgramKeeps (words : List (List ℕ)) (status : ℕ) (old new : Met)
       ⊎ IsRefused before old (record new { house_faults = faults })
   pub causes : Causes Failed closed faults new.house_faults
   pub status_is : status ≡ status_behind closed before
+
+-- over the real files and the real output, which aren't modelled, with no fault met before: of all
+-- words that were handed in but the first, the program kept its promises; or memory was wanting
+-- before it had them
+abbrev pub EndsSo : {S E Z : Type 0} → (steps : S → Option (String Z) → S → Type 0) → Result S E
+    → Option Ledger → ℕ → ℕ → Type 0
+EndsSo steps args ledger house_faults status =
+    ((words : List (List ℕ)) × AreWordsBehind steps args words
+    × (after : Met) × ProgramKeeps words status (met None 0 ledger house_faults None 0) after)
+    ⊎ (status ≡ 9)

@@ -1,11 +1,16 @@
 //! How the program begins, over what the system gives it.
 
+ghost use Rattle.std.specs.Prelude.{◌≡◌, ◌⊎◌, None};
+ghost use Rattle.std.specs.Process.{exit_status};
+ghost use Rattle.std.specs.Vec.Iter.{into_iter_steps};
+ghost use Rattle.vk_program.specs.Runs.{EndsSo};
+
 use crate::ending::end;
 use crate::house::HousePlace;
 use crate::performing::program;
 use crate::store::{STORE, StoreHouse};
 use std::alloc::Global;
-use std::env::{self, Args};
+use std::env::Args;
 use std::fs::File;
 use std::io;
 use std::process::ExitCode;
@@ -38,21 +43,28 @@ pub fn run_over<R: Eprint + Print + AllocGlobal + Files, H: HousePlace>(
     rt: &R,
     args: io::Result<Args>,
     house: H,
-) -> ExitCode {
+) -> ExitCode
+    ensures { EndsSo into_iter_steps args (H.ledger house) (H.faults house) (exit_status result) }
+{
     let mut files = FileShelf::new(rt, rt.alloc(), STORE);
     let mut out = OutSink::new(rt);
     let (code, _house) = program(args, rt, house, &mut files, &mut out);
     code
 }
 
-/// The whole program, over its words and the store of the current folder.
-pub fn start(rt: &HostRuntime) -> ExitCode {
+/// The whole program, over its words, the program's own name first, and the store of the current
+/// folder. Ends with 6 also where the handles of the root folder aren't to be had, and then has done
+/// nothing.
+pub fn start(rt: &HostRuntime, args: io::Result<Args>) -> ExitCode
+    ensures { EndsSo into_iter_steps args None 0 (exit_status result)
+        ⊎ (exit_status result ≡ 6) }
+{
     // Once the C library was given back a block of some size, it keeps twice as much of what is
     // given back later. Else it hands the memory of each lane to the system, which clears every
     // page of it anew for the next lane.
     drop(room(rt.alloc()));
     match take_standard_numbers(rt) {
-        Ok(_standing) => run_over(rt, env::args(rt), StoreHouse::of(rt)),
+        Ok(_standing) => run_over(rt, args, StoreHouse::of(rt)),
         Err(_fault) => end(rt, 6),
     }
 }
