@@ -1,30 +1,46 @@
-//! Trials of the program but for its `main`, over a store in the folder that it runs in. The steps
-//! are those of a file, and of each it prints what came of it.
+//! Trials of the program over a store in the folder that it runs in. The steps are those of a file,
+//! and of each it prints what came of it.
 #![tactic(auto)]
 
-mod folder;
-
-use crate::folder::Folder;
-use std::alloc::Global;
 use std::process::ExitCode;
-use vk_cases::{Replay, Replayed, replay_here, take_file};
-use vk_io::{Shelf, Sink};
+use vk_cases::replay_here;
+use vk_folder_cases::{FolderTrials, Program};
+use vk_program::{HousePlace, StoreHouse, run_over};
 
-/// The steps of the file `steps`.
+/// The program over the store of the folder.
 #[derive(Drop)]
-struct ProgramTrials<'a> {
-    rt: &'a HostRuntime,
-}
+struct OverStore;
 
-impl Replay for ProgramTrials<'_> {
-    fn replay<S: Shelf, W: Sink>(&self, alloc: Global, folder: &mut S, out: &mut W) -> Replayed {
-        let mut real = Folder { rt: self.rt };
-        take_file(alloc, &mut real, folder, "steps", out)?;
-        real.clear();
-        Ok(())
+impl Program for OverStore {
+    fn run(&self, rt: &HostRuntime, words: Vec<String>) -> ExitCode {
+        run_over(rt, Ok(words.into_iter()), StoreHouse::of(rt))
+    }
+
+    fn run_beside(&self, rt: &HostRuntime, words: Vec<String>) -> Option<ExitCode> {
+        let mut house = StoreHouse::of(rt);
+        let code = run_beside(&mut house, rt, words);
+        code
     }
 }
 
+/// Runs the program while a keeper of the house is open. It is generic since a keeper of the real
+/// store is dearer to drop.
+fn run_beside<H: HousePlace>(
+    house: &mut H,
+    rt: &HostRuntime,
+    words: Vec<String>,
+) -> Option<ExitCode> {
+    let Ok(keeper) = house.open() else {
+        return None;
+    };
+    let code = OverStore.run(rt, words);
+    if house.close(keeper).is_err() {
+        return None;
+    }
+    Some(code)
+}
+
 fn main(rt: HostRuntime) -> ExitCode {
-    replay_here(&rt, &ProgramTrials { rt: &rt })
+    let program = OverStore;
+    replay_here(&rt, &FolderTrials { rt: &rt, program })
 }

@@ -1,9 +1,9 @@
-//! Steps of trials over real files: what makes files, folders and links and takes them away, and
-//! what a person sees of a file.
+//! Trials of a program in the folder that it runs in: steps that run it, that make files, folders
+//! and links and take them away, and that tell what a person sees of a file.
 #![tactic(auto)]
 
+mod folder;
 mod making;
 mod seeing;
 
-pub use making::make;
-pub use seeing::see;
+pub use folder::{FolderTrials, Program};
