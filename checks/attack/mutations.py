@@ -9,6 +9,7 @@ import signal
 import sqlite3
 import tempfile
 from collections import Counter
+from contextlib import suppress
 from functools import lru_cache
 
 from attack import reference
@@ -437,7 +438,9 @@ class Bench:
 
     def end_late(self, *_):
         self.is_late = True
-        os.kill(self.child, signal.SIGKILL)
+        # It may have ended by itself just now.
+        with suppress(ProcessLookupError):
+            os.kill(self.child, signal.SIGKILL)
 
     def run_over(self, subject, words, files):
         """The status, the text and the error of the program over these files, and the files then.
