@@ -1,9 +1,10 @@
 -- A lane of what operators give, and of the words of four messages.
-use Rattle.std.proofs.Common.{◌≡◌, ℕ, zero, suc, ◌<◌, List, ◌∷◌, [], length, slice_index, slice_index_or, slice_set, map, arith, refl, ◌∙◌}
-use Rattle.std.proofs.lemmas.Simd.{get_or-zip2, length-zip2}
+use Rattle.std.proofs.Common.{◌≡◌, ℕ, zero, suc, ◌<◌, List, ◌∷◌, [], length, slice_index, slice_index_or, slice_set, map, arith, Fits, refl, ◌^◌, ◌∙◌}
+use Rattle.std.proofs.lemmas.Simd.{Each1-get_or, below_from_Fits, get_or-zip2, length-zip2}
 use Rattle.std.proofs.lemmas.List.{get_or-map, length-map, map-set}
 use Rattle.std.proofs.Math.ListN.{get_or-map as get_or-map-default}
-use Rattle.std.specs.Simd.Lanes.{zip2}
+use Rattle.std.specs.Int.{w32}
+use Rattle.std.specs.Simd.Lanes.{Each1, zip2}
 use Rattle.vk_digests.specs.Lanes.{lane}
 
 -- an operator on two vectors
@@ -25,6 +26,12 @@ lane_splat n (suc zero) lt = refl
 lane_splat n (suc (suc zero)) lt = refl
 lane_splat n (suc (suc (suc zero))) lt = refl
 lane_splat n (suc (suc (suc (suc j)))) lt = absurd (omega arith)
+
+-- each lane is a word
+pub lane_fits : (x : List ℕ) (j : ℕ) → (length x ≡ 4) × Each1 (Fits w32) x → j < 4
+    → slice_index x j < 2 ^ 32
+lane_fits x j fits lt =
+    Each1-get_or (λ word. word < 2 ^ 32) x j 0 (omega arith) (below_from_Fits w32 x fits.1)
 
 -- a word of a message
 pub lane_at : (j k : ℕ) (words : List (List ℕ))

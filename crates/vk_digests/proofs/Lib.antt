@@ -1,3 +1,4 @@
 pub mod PaddedMessages
 pub mod Lanes
 pub mod Majority
+pub mod Rotations

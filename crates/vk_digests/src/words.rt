@@ -1,5 +1,5 @@
 // The functions of SHA-256 on words (FIPS 180-4, 4.1.2), in each of four lanes.
-ghost use Rattle.std.specs.Prelude.{◌≡◌, ◌<◌, ℕ, slice_index};
+ghost use Rattle.std.specs.Prelude.{◌≡◌, ◌/◌, ◌^◌, ◌<◌, ℕ, bit_xor, slice_index};
 ghost use Rattle.std.specs.Int.{w32, rotate_right};
 ghost use Rattle.sha2.specs.Sha256.{add32, ch, maj, big_sigma0, big_sigma1, small_sigma0, small_sigma1, round};
 ghost use Rattle.vk_digests.specs.Lanes.{lane};
@@ -15,11 +15,28 @@ pub(crate) fn add(x: u32x4, y: u32x4) -> u32x4
 
 #[inline(always)]
 #[tactic(auto, using(crate::proofs::Lanes::lanes))]
+fn xor(x: u32x4, y: u32x4) -> u32x4
+    ensures { (j : ℕ) → j < 4 → slice_index result j ≡ bit_xor (slice_index x j) (slice_index y j) }
+{
+    x ^ y
+}
+
+#[inline(always)]
+#[tactic(auto, using(crate::proofs::Lanes::lanes))]
 fn rotate_right(x: u32x4, k: u32) -> u32x4
     requires { (0 < k) × (k < 32) }
     ensures { (j : ℕ) → j < 4 → slice_index result j ≡ rotate_right w32 (slice_index x j) k }
 {
     (x >> u32x4::splat(k)) | (x << u32x4::splat(32 - k))
+}
+
+#[inline(always)]
+#[tactic(auto, using(crate::proofs::Lanes::lanes))]
+fn shift_right(x: u32x4, k: u32) -> u32x4
+    requires { k < 32 }
+    ensures { (j : ℕ) → j < 4 → slice_index result j ≡ slice_index x j / 2 ^ k }
+{
+    x >> u32x4::splat(k)
 }
 
 #[inline(always)]
@@ -42,36 +59,41 @@ fn maj(x: u32x4, y: u32x4, z: u32x4) -> u32x4
     ((x ^ y) & (y ^ z)) ^ y
 }
 
+// The four functions below nest their rotations, as those of the sha2 crate do: that takes fewer
+// copies of `x` than rotating it afresh each time.
+
 #[inline(always)]
-#[tactic(auto, using(crate::proofs::Lanes::lanes))]
 fn big_sigma0(x: u32x4) -> u32x4
     ensures { (j : ℕ) → j < 4 → slice_index result j ≡ big_sigma0 (slice_index x j) }
 {
-    rotate_right(x, 2) ^ rotate_right(x, 13) ^ rotate_right(x, 22)
+    rotate_right(xor(x, rotate_right(xor(x, rotate_right(x, 9)), 11)), 2)
 }
 
 #[inline(always)]
-#[tactic(auto, using(crate::proofs::Lanes::lanes))]
 fn big_sigma1(x: u32x4) -> u32x4
     ensures { (j : ℕ) → j < 4 → slice_index result j ≡ big_sigma1 (slice_index x j) }
 {
-    rotate_right(x, 6) ^ rotate_right(x, 11) ^ rotate_right(x, 25)
+    rotate_right(xor(x, rotate_right(xor(x, rotate_right(x, 14)), 5)), 6)
 }
 
 #[inline(always)]
-#[tactic(auto, using(crate::proofs::Lanes::lanes))]
 pub(crate) fn small_sigma0(x: u32x4) -> u32x4
     ensures { (j : ℕ) → j < 4 → slice_index result j ≡ small_sigma0 (slice_index x j) }
 {
-    rotate_right(x, 7) ^ rotate_right(x, 18) ^ (x >> u32x4::splat(3))
+    xor(
+        rotate_right(xor(x, rotate_right(x, 11)), 7),
+        shift_right(x, 3),
+    )
 }
 
 #[inline(always)]
-#[tactic(auto, using(crate::proofs::Lanes::lanes))]
 pub(crate) fn small_sigma1(x: u32x4) -> u32x4
     ensures { (j : ℕ) → j < 4 → slice_index result j ≡ small_sigma1 (slice_index x j) }
 {
-    rotate_right(x, 17) ^ rotate_right(x, 19) ^ (x >> u32x4::splat(10))
+    xor(
+        rotate_right(xor(x, rotate_right(x, 2)), 17),
+        shift_right(x, 10),
+    )
 }
 
 /// One round (6.2.2, step 3).
