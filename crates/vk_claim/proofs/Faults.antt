@@ -7,8 +7,8 @@ use Rattle.vk_lines.proofs.Faults.{ends_then, fault_line_is, follows_done, follo
 use Rattle.vk_board.specs.Tables.{InHead, BoardPlace, behind_head, lane_place}
 use Rattle.vk_board.specs.Values.{Shape}
 use Rattle.vk_board.proofs.Faults.{behind_ends, head_line_then, seals_follow}
-use Rattle.vk_claim.specs.declared.head.ClaimHead.{ClaimHead}
-use Rattle.vk_claim.specs.declared.head.ClaimFront.{ClaimFront}
+use Rattle.vk_claim.specs.declared.front.ClaimHead.{ClaimHead}
+use Rattle.vk_claim.specs.declared.front.ClaimFront.{ClaimFront}
 use Rattle.vk_claim.specs.Values.{claim_frame}
 use Rattle.vk_claim.specs.Reading.{claim_file_at, claim_file_with, claim_front_at, claim_front_with, claim_head_at, head_with, n_line, numbers_at}
 use Rattle.vk_claim.specs.Tables.{Auction, ClaimPlace, Count, Heading, Inputs, KindLine, Lanes, Number, claim_head_table, claim_table, number_place}

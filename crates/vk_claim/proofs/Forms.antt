@@ -14,7 +14,7 @@ use Rattle.vk_board.specs.Values.{AreSealsOf, Shape}
 use Rattle.vk_board.specs.Texts.{behind_text, seal_lines_text}
 use Rattle.vk_board.proofs.Boards.{BehindOf, behind_is_whole}
 use Rattle.vk_board.proofs.Forms.{seal_lines_are_part}
-use Rattle.vk_claim.specs.declared.head.ClaimHead.{ClaimHead}
+use Rattle.vk_claim.specs.declared.front.ClaimHead.{ClaimHead}
 use Rattle.vk_words.specs.declared.claim.Kind.{Kind}
 use Rattle.vk_words.specs.declared.claim.Kind.TheVariants.{Uniform, Matching}
 use Rattle.vk_words.specs.Claims.{kind_named, kind_word}

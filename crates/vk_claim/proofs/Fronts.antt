@@ -26,8 +26,8 @@ use Rattle.vk_judge.specs.Statement.{IsStatement}
 use Rattle.vk_judge.proofs.Steps.{value_same}
 use Rattle.vk_claim.specs.declared.claim.ClaimRefusal.{ClaimRefusal}
 use Rattle.vk_claim.specs.declared.claim.ClaimRefusal.TheVariants.{Public}
-use Rattle.vk_claim.specs.declared.head.ClaimFront.{ClaimFront}
-use Rattle.vk_claim.specs.declared.head.ClaimHead.{ClaimHead}
+use Rattle.vk_claim.specs.declared.front.ClaimFront.{ClaimFront}
+use Rattle.vk_claim.specs.declared.front.ClaimHead.{ClaimHead}
 use Rattle.vk_words.specs.declared.claim.Kind.{Kind}
 use Rattle.vk_claim.specs.Values.{Plans, claim_frame, plan_for, shape_for, shape_with}
 use Rattle.vk_claim.specs.Texts.{claim_front_text}

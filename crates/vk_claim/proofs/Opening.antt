@@ -13,7 +13,7 @@ use Rattle.vk_bids.specs.FileHeadline.{IsOfFile, IsOpenedFile}
 use Rattle.vk_bids.specs.Opening.{LaneOpens}
 use Rattle.vk_bids.proofs.FileHeadline.{accepted_open}
 use Rattle.vk_claim.specs.declared.claim.ClaimRefusal.{ClaimRefusal}
-use Rattle.vk_claim.specs.declared.head.ClaimHead.{ClaimHead}
+use Rattle.vk_claim.specs.declared.front.ClaimHead.{ClaimHead}
 use Rattle.vk_words.specs.declared.claim.Kind.{Kind}
 use Rattle.vk_claim.specs.Values.{Claims, Plans, plan_for}
 use Rattle.vk_claim.specs.Claims.{IsClaim, claim_at, statement_of}

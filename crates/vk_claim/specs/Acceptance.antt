@@ -6,8 +6,8 @@ use Rattle.vk_judge.specs.FileForms.{Accepts, Form, Fronts, JudgedHolds}
 use Rattle.vk_judge.specs.Refusals.{BeginsWith}
 use Rattle.vk_claim.specs.declared.claim.ClaimRefusal.{ClaimRefusal}
 use Rattle.vk_claim.specs.declared.claim.ClaimRefusal.TheVariants.{Public}
-use Rattle.vk_claim.specs.declared.head.ClaimFront.{ClaimFront}
-use Rattle.vk_claim.specs.declared.head.ClaimHead.{ClaimHead}
+use Rattle.vk_claim.specs.declared.front.ClaimFront.{ClaimFront}
+use Rattle.vk_claim.specs.declared.front.ClaimHead.{ClaimHead}
 use Rattle.vk_claim.specs.declared.verdict.ClaimVerdict.{ClaimVerdict}
 use Rattle.vk_claim.specs.Values.{IsClaimFront, Plans, plan_for, shape_for}
 use Rattle.vk_claim.specs.Texts.{claim_front_text}

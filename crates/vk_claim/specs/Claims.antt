@@ -13,8 +13,8 @@ use Rattle.vk_judge.specs.Statement.{StatementValue}
 use Rattle.vk_judge.specs.Behind.{in_part}
 use Rattle.vk_claim.specs.declared.claim.ClaimRefusal.{ClaimRefusal}
 use Rattle.vk_claim.specs.declared.claim.ClaimRefusal.TheVariants.{Public}
-use Rattle.vk_claim.specs.declared.head.ClaimFront.{ClaimFront}
-use Rattle.vk_claim.specs.declared.head.ClaimHead.{ClaimHead}
+use Rattle.vk_claim.specs.declared.front.ClaimFront.{ClaimFront}
+use Rattle.vk_claim.specs.declared.front.ClaimHead.{ClaimHead}
 use Rattle.vk_claim.specs.Values.{IsClaimFront, Plans, plan_for}
 use Rattle.vk_claim.specs.Reading.{claim_front_at, claim_front_with}
 

@@ -14,7 +14,7 @@ use Rattle.vk_bids.specs.FileExtraction.{FileExtraction, file_extraction, file_e
 use Rattle.vk_bids.specs.FileHeadline.{IsClashOf, IsOpenedFile, TwoAccepted}
 use Rattle.vk_bids.specs.Opening.{LaneOpens}
 use Rattle.vk_claim.specs.declared.claim.ClaimRefusal.{ClaimRefusal}
-use Rattle.vk_claim.specs.declared.head.ClaimHead.{ClaimHead}
+use Rattle.vk_claim.specs.declared.front.ClaimHead.{ClaimHead}
 use Rattle.vk_claim.specs.Values.{Claims, Plans, claim_for}
 use Rattle.vk_claim.specs.Claims.{IsClaim, claim_at}
 use Rattle.vk_claim.specs.Acceptance.{claim_form, claim_fronts}

@@ -4,7 +4,7 @@ use Rattle.vk_lines.specs.Forms.{Table}
 use Rattle.vk_lines.specs.Tokens.{id_line, number_line, word_of}
 use Rattle.vk_board.specs.Values.{Shape}
 use Rattle.vk_board.specs.Tables.{HeadTable, InHead, BoardPlace, behind_head, sealed_table}
-use Rattle.vk_claim.specs.declared.head.ClaimHead.{ClaimHead}
+use Rattle.vk_claim.specs.declared.front.ClaimHead.{ClaimHead}
 use Rattle.vk_words.specs.declared.claim.Kind.{Kind}
 use Rattle.vk_claim.specs.Values.{claim_frame}
 use Rattle.vk_claim.specs.Reading.{head_with, kind_line, n_line}

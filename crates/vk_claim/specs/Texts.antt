@@ -4,9 +4,9 @@ use Rattle.std.specs.List.{flat_map}
 use Rattle.vk_lines.specs.Forms.{line, spaced}
 use Rattle.vk_lines.specs.Tokens.{hex_text}
 use Rattle.vk_board.specs.Texts.{behind_text, seal_lines_text}
-use Rattle.vk_claim.specs.declared.head.ClaimHead.{ClaimHead}
+use Rattle.vk_claim.specs.declared.front.ClaimHead.{ClaimHead}
 use Rattle.vk_words.specs.Claims.{kind_word}
-use Rattle.vk_claim.specs.declared.head.ClaimFront.{ClaimFront}
+use Rattle.vk_claim.specs.declared.front.ClaimFront.{ClaimFront}
 use Rattle.vk_claim.specs.Values.{ClaimFile}
 
 -- how many numbers there are, and then each

@@ -9,7 +9,7 @@ use Rattle.vk_judge.specs.Found.{told_by}
 use Rattle.vk_judge.specs.HeldFiles.{ComesOfHeld}
 use Rattle.vk_judge.specs.Opened.{Checked, Coming, FileBase, checked_finding, file_coming, opened_in}
 use Rattle.vk_claim.specs.declared.claim.ClaimRefusal.{ClaimRefusal}
-use Rattle.vk_claim.specs.declared.head.ClaimHead.{ClaimHead}
+use Rattle.vk_claim.specs.declared.front.ClaimHead.{ClaimHead}
 use Rattle.vk_claim.specs.declared.verdict.ClaimVerdict.{ClaimVerdict}
 use Rattle.vk_claim.specs.Values.{Plans}
 use Rattle.vk_claim.specs.Claims.{IsClaim, claim_at}

@@ -7,9 +7,9 @@ use Rattle.vk_board.specs.declared.board.SealLines.{SealLines}
 use Rattle.vk_board.specs.declared.board.LaneLines.{LaneLines}
 use Rattle.vk_board.specs.Values.{AreBytes, AreSealsOf, Frame, IsLaneLines, Shape}
 use Rattle.vk_judge.specs.Behind.{later_wires}
-use Rattle.vk_claim.specs.declared.head.ClaimHead.{ClaimHead}
+use Rattle.vk_claim.specs.declared.front.ClaimHead.{ClaimHead}
 use Rattle.vk_words.specs.declared.claim.Kind.{Kind}
-use Rattle.vk_claim.specs.declared.head.ClaimFront.{ClaimFront}
+use Rattle.vk_claim.specs.declared.front.ClaimFront.{ClaimFront}
 
 -- the numbers of a public part: 1 to 128 of them, each below 2^64
 pub record AreNumbers (numbers : List ℕ) : Type 0 where

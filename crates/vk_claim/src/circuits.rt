@@ -3,7 +3,7 @@ ghost use Rattle.vk_plan.specs.Plans.{PlanValue, IsPlan, Holds};
 ghost use Rattle.vk_words.specs.declared.claim.Kind.{Kind};
 ghost use Rattle.vk_claim.specs.Values.{plan_for};
 
-use crate::head::ClaimHead;
+use crate::front::ClaimHead;
 use std::alloc::Global;
 use vk_plan::Plan;
 use vk_residue::NoMemory;

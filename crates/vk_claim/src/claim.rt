@@ -5,7 +5,7 @@ ghost use Rattle.vk_claim.specs.Values.{IsClaimFront, plan_for};
 ghost use Rattle.vk_claim.specs.Claims.{IsClaim, claim_at, claim_with};
 
 use crate::circuits::Circuits;
-use crate::head::{ClaimFront, ClaimHead, read_claim_front};
+use crate::front::{ClaimFront, ClaimHead, read_claim_front};
 use std::alloc::Global;
 use vk_io::{OutsideErr, Shelf};
 use vk_judge::{Opened, Part, Refusal, Statement, in_part, refusal_as_value};

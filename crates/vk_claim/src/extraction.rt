@@ -5,7 +5,7 @@ ghost use Rattle.vk_claim.specs.Extraction.{ShowsClaims, claim_extraction_named}
 
 use crate::circuits::Circuits;
 use crate::claim::{ClaimRefusal, read_claim};
-use crate::head::ClaimHead;
+use crate::front::ClaimHead;
 use std::alloc::Global;
 use vk_bids::{FileExtraction, OpenedFile, extract_file};
 use vk_io::Shelf;

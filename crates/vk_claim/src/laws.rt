@@ -4,7 +4,7 @@ ghost use Rattle.std.specs.Prelude.{◌≡◌, ℕ, List};
 ghost use Rattle.std.specs.Result.{result_err};
 ghost use Rattle.vk_judge.specs.Common.{AcceptedGive, FaultsAllButTexts, FindsByBoth, IsPart, IsWhole, fault_line, whole};
 ghost use Rattle.vk_board.specs.Values.{Shape};
-ghost use Rattle.vk_claim.specs.declared.head.ClaimHead.{ClaimHead};
+ghost use Rattle.vk_claim.specs.declared.front.ClaimHead.{ClaimHead};
 ghost use Rattle.vk_claim.specs.Values.{IsClaimFile, IsClaimFront, IsClaimHead};
 ghost use Rattle.vk_claim.specs.Texts.{claim_front_text, claim_head_text, claim_text};
 ghost use Rattle.vk_claim.specs.Reading.{claim_file_at, claim_front_at, claim_head_at};

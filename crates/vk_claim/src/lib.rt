@@ -5,7 +5,7 @@
 mod circuits;
 mod claim;
 mod extraction;
-mod head;
+mod front;
 mod laws;
 mod printing;
 mod two;
@@ -14,7 +14,7 @@ mod verdict;
 pub use circuits::Circuits;
 pub use claim::{Claim, ClaimRefusal, read_claim};
 pub use extraction::{ClaimExtraction, OpenedClaim, extract_claim};
-pub use head::{ClaimFront, ClaimHead, claim_head_text, read_claim_front};
+pub use front::{ClaimFront, ClaimHead, claim_head_text, read_claim_front};
 pub use laws::{
     accepted_claims_open_values_or_clash, all_but_claim_files_have_a_fault_line,
     claim_files_are_read_from_their_texts_alone, claim_verdicts_are_given_exactly_where_they_hold,

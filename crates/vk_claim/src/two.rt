@@ -5,7 +5,7 @@ ghost use Rattle.vk_claim.specs.Two.{IsClaimBase, as_claim_finding, claim_findin
 
 use crate::circuits::Circuits;
 use crate::claim::{ClaimRefusal, read_claim};
-use crate::head::ClaimHead;
+use crate::front::ClaimHead;
 use crate::verdict::ClaimVerdict;
 use std::alloc::Global;
 use std::marker::Model;
@@ -26,7 +26,7 @@ pub struct ClaimChecker {
 impl Model for ClaimChecker {
     ghost use Rattle.vk_judge.specs.Opened.{Checked};
     ghost use Rattle.vk_claim.specs.declared.claim.ClaimRefusal.{ClaimRefusal};
-    ghost use Rattle.vk_claim.specs.declared.head.ClaimHead.{ClaimHead};
+    ghost use Rattle.vk_claim.specs.declared.front.ClaimHead.{ClaimHead};
 
     ghost Value = { Checked ClaimHead ClaimRefusal };
 

@@ -11,3 +11,4 @@ pub mod Residues
 pub mod Slices
 pub mod Modelled
 pub mod Words
+pub mod Successive

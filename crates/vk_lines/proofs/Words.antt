@@ -67,7 +67,7 @@ space_found text None nowhere =
     (λ past. absurd (omega arith)) in
     grind (arith, nat_tests)
 
-fields_of-word : (text : List ℕ) → is_word text ≡ true → fields_of text ≡ text ∷ []
+pub fields_of-word : (text : List ℕ) → is_word text ≡ true → fields_of text ≡ text ∷ []
 fields_of-word [] word = refl
 fields_of-word (b ∷ text) word =
     let parts = and_parts (nat_lt 32 b) (is_word text) word in
@@ -75,7 +75,7 @@ fields_of-word (b ∷ text) word =
     let rest = fields_of-word text parts.1 in
     rw (other, rest) refl
 
-fields_of-more : (text more : List ℕ) → is_word text ≡ true
+pub fields_of-more : (text more : List ℕ) → is_word text ≡ true
     → fields_of (text ++ 32 ∷ more) ≡ text ∷ fields_of more
 fields_of-more [] more word = refl
 fields_of-more (b ∷ text) more word =
@@ -130,7 +130,7 @@ hex_token count = record {
 }
 
 -- what a step shows where the steps together gave a value
-bind_some : {A B : Type 0} (o : Option A) (f : A → Option B) (y : B) → (o >>? f) ≡ Some y
+pub bind_some : {A B : Type 0} (o : Option A) (f : A → Option B) (y : B) → (o >>? f) ≡ Some y
     → (x : A) × (o ≡ Some x) × (f x ≡ Some y)
 bind_some (Some x) f y h = (x, refl, h)
 bind_some None f y h = cc
@@ -273,7 +273,7 @@ behind_of word fields some_of shows f shown some =
     behind_shown word fields step.0 step.1 ∙ ap (λ fs. word ∷ fs) (shown step.0 f step.2)
 
 -- from the fields to the text
-text_is : (text first : List ℕ) (words : List (List ℕ)) → fields_of text ≡ first ∷ words
+pub text_is : (text first : List ℕ) (words : List (List ℕ)) → fields_of text ≡ first ∷ words
     → text ≡ join_with_byte 32 (first ∷ words)
 text_is text first words fields = sym (join-fields_of text) ∙ ap (join_with_byte 32) fields
 

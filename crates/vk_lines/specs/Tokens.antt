@@ -108,6 +108,16 @@ abbrev pub four_of : List (List ℕ) → Option (List ℕ × List ℕ × List �
 four_of (a ∷ rest) = three_of rest >>? λ fields. Some (a, fields.0, fields.1, fields.2)
 four_of [] = None
 
+-- the first field, read by itself, and the fields behind it, where there are any
+abbrev pub first_by : {A : Type 0} → (List ℕ → Option A) → List (List ℕ)
+    → Option (A × List (List ℕ))
+first_by parse (field ∷ next ∷ more) = parse field >>? λ a. Some (a, next ∷ more)
+first_by parse fields = None
+
+-- the field where there is one, read by itself
+abbrev pub alone_by : {A : Type 0} → (List ℕ → Option A) → List (List ℕ) → Option A
+alone_by parse fields = one_of fields >>? parse
+
 -- a line of a word and one field, a word and two, and so on, each field read by itself
 abbrev pub one_by : {X : Type 0} → List ℕ → (List ℕ → Option X) → List (List ℕ) → Option X
 one_by word parse fields = behind_word word fields >>? one_of >>? parse

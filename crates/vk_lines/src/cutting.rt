@@ -1,8 +1,8 @@
 //! The fields of a line, which stand between single spaces.
 
-ghost use Rattle.std.specs.Prelude.{◌≡◌, ◌==◌, ◌<◌, ◌≤◌, ◌+◌, ◌↔◌, length, slice_get, option_map, IfSome, IsNone};
+ghost use Rattle.std.specs.Prelude.{◌≡◌, ◌==◌, ◌<◌, ◌≤◌, ◌+◌, ◌↔◌, length, slice_get, option_map, IfSome, IsNone, Some};
 ghost use Rattle.std.specs.List.{count_by, position};
-ghost use Rattle.vk_lines.specs.Tokens.{fields_of, with_fields, word_of, behind_word, one_of, two_of, three_of, four_of};
+ghost use Rattle.vk_lines.specs.Tokens.{fields_of, first_by, with_fields, word_of, behind_word, one_of, two_of, three_of};
 
 use memchr::memchr;
 
@@ -52,6 +52,16 @@ fn first_space(text: &[u8]) -> Option<usize>
     memchr(b' ', text)
 }
 
+/// The first field, and the text behind the space after it, where there is one.
+#[tactic(auto, using(crate::proofs::Successive::first_by_more))]
+pub fn next_field(text: &[u8]) -> Option<(&[u8], &[u8])>
+    ensures { option_map (λ x. (x.0.now, fields_of x.1.now)) result
+        ≡ first_by Some (fields_of text.now) }
+{
+    let (first, rest) = cut(text);
+    Some((first, rest?))
+}
+
 /// The text behind this word and a space, where it begins so. No byte of that text is looked at.
 #[tactic(auto, using(crate::proofs::Words::behind_word_more))]
 pub fn behind_word<'a>(text: &'a [u8], word: &[u8]) -> Option<&'a [u8]>
@@ -91,14 +101,4 @@ pub fn three_fields(text: &[u8]) -> Option<(&[u8], &[u8], &[u8])>
     let (first, rest) = cut(text);
     let (second, third) = two_fields(rest?)?;
     Some((first, second, third))
-}
-
-/// The fields of a text that has four.
-pub fn four_fields(text: &[u8]) -> Option<(&[u8], &[u8], &[u8], &[u8])>
-    ensures { option_map (λ x. (x.0.now, x.1.now, x.2.now, x.3.now)) result
-        ≡ four_of (fields_of text.now) }
-{
-    let (first, rest) = cut(text);
-    let (second, third, fourth) = three_fields(rest?)?;
-    Some((first, second, third, fourth))
 }

@@ -13,7 +13,7 @@ mod tokens;
 mod writing;
 
 pub use cutting::{
-    behind_word, field, fields, four_fields, one_field, read_word, three_fields, two_fields,
+    behind_word, field, fields, next_field, one_field, read_word, three_fields, two_fields,
 };
 pub use digests::{DigestsLine, push_digests_lines};
 pub use digits::{push_hex, read_hex16, read_hex32};
@@ -21,7 +21,10 @@ pub use errors::{ReadErr, StartErr};
 pub use lines::Lines;
 pub use many::{LineKind, read_item, read_many};
 pub use step::Step;
-pub use tokens::{push_decimal, read_decimal, read_digests, read_id, read_number, read_residue};
+pub use tokens::{
+    last_hex32, last_residue, next_hex32, push_decimal, read_decimal, read_digests, read_id,
+    read_number, read_residue,
+};
 pub use writing::{
     end_line, push_digests_line, push_hex_line, push_line, push_number_line, push_space,
 };

@@ -1,11 +1,11 @@
 //! Numbers as text, and the lines that several forms have.
 
-ghost use Rattle.std.specs.Prelude.{◌≡◌, ◌+◌, ◌*◌, ◌^◌, ◌++◌, decimal, length, drop, IfSome, IsNone, OnErr, OnOk, ◌≤◌};
+ghost use Rattle.std.specs.Prelude.{◌≡◌, ◌+◌, ◌*◌, ◌^◌, ◌++◌, decimal, length, drop, option_map, IfSome, IsNone, OnErr, OnOk, ◌≤◌};
 ghost use Rattle.hex.specs.Hex.{IsBytes};
 ghost use Rattle.vk_residue.specs.Residue.{IsResidue};
-ghost use Rattle.vk_lines.specs.Tokens.{number_line, id_line, digests_line, HasDigests, decimal_of, residue_of, ReadsDecimal, next_number, starts_canonical};
+ghost use Rattle.vk_lines.specs.Tokens.{fields_of, first_by, alone_by, hex_of, number_line, id_line, digests_line, HasDigests, decimal_of, residue_of, ReadsDecimal, next_number, starts_canonical};
 
-use crate::cutting::{behind_word, one_field, two_fields};
+use crate::cutting::{behind_word, one_field};
 use crate::digits::{read_hex16, read_hex32};
 use vk_digests::TwoDigests;
 use vk_residue::{MODULUS, NoMemory, Residue};
@@ -59,6 +59,10 @@ fn next_number(number: u64, digit: u8, most: u64) -> Option<u64>
     if !digit.is_ascii_digit() {
         return None;
     }
+    // One comparison tells of most digits that neither the most nor a u64 is passed.
+    if number < most / 10 {
+        return Some(10 * number + u64::from(digit - b'0'));
+    }
     let longer = with_digit(number, digit - b'0')?;
     if longer <= most { Some(longer) } else { None }
 }
@@ -69,12 +73,7 @@ fn with_digit(number: u64, value: u8) -> Option<u64>
     ensures exact { IfSome result (λ longer. longer ≡ 10 * number + value) }
     ensures none { IsNone result → 2 ^ 64 ≤ 10 * number + value }
 {
-    // A comparison takes less time than products and sums that look whether they wrap.
-    if number < u64::MAX / 10 {
-        Some(10 * number + u64::from(value))
-    } else {
-        number.checked_mul(10)?.checked_add(u64::from(value))
-    }
+    number.checked_mul(10)?.checked_add(u64::from(value))
 }
 
 /// The number of a line of this word and a number from `least` to `most`.
@@ -97,14 +96,52 @@ pub fn read_id(text: &[u8], word: &[u8]) -> Option<[u8; 16]>
     id
 }
 
+/// The 32 bytes that the first field writes in hexadecimal, and the text behind the space after it.
+/// `None` where no other field follows, too.
+// No space is looked for: among 64 digits there is none.
+pub fn next_hex32(text: &[u8]) -> Option<([u8; 32], &[u8])>
+    ensures value { option_map (λ x. (x.0, fields_of x.1.now)) result
+        ≡ first_by (hex_of 32) (fields_of text.now) }
+    ensures bytes { IfSome result (λ x. (length x.0 ≡ 32) × IsBytes x.0) }
+{
+    if text.len() <= 64 {
+        return None;
+    }
+    let (digits, more) = text.split_at(64);
+    if more[0] != b' ' {
+        return None;
+    }
+    let bytes = read_hex32(digits)?;
+    Some((bytes, &more[1..]))
+}
+
+/// The 32 bytes that the only field writes in hexadecimal; `None` where there are more fields, too.
+#[tactic(auto, using(crate::proofs::Successive::hex_alone))]
+pub fn last_hex32(text: &[u8]) -> Option<[u8; 32]>
+    ensures value { result ≡ alone_by (hex_of 32) (fields_of text.now) }
+    ensures bytes { IfSome result (λ bytes. (length bytes ≡ 32) × IsBytes bytes) }
+{
+    let bytes = read_hex32(text);
+    bytes
+}
+
+/// The residue whose canonical decimal the only field is; `None` where there are more fields, too.
+#[tactic(auto, using(crate::proofs::Successive::residue_alone))]
+pub fn last_residue(text: &[u8]) -> Option<Residue>
+    ensures value { result ≡ alone_by residue_of (fields_of text.now) }
+    ensures right { IfSome result IsResidue }
+{
+    let residue = read_residue(text);
+    residue
+}
+
 /// What the digests make of a line of this word and twice 32 bytes in hexadecimal.
 pub fn read_digests<C: TwoDigests + Drop>(text: &[u8], word: &[u8]) -> Option<C>
     ensures value { result ≡ digests_line C.made word.now text.now }
     ensures bytes { IfSome result (λ item. HasDigests (C.first_of item) (C.second_of item)) }
 {
-    let (first, second) = two_fields(behind_word(text, word)?)?;
-    let first = read_hex32(first)?;
-    let second = read_hex32(second)?;
+    let (first, rest) = next_hex32(behind_word(text, word)?)?;
+    let second = last_hex32(rest)?;
     Some(C::of_two(first, second))
 }
 

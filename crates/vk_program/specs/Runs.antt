@@ -107,8 +107,8 @@ pub record ProgramKeeps (words : List (List ℕ)) (status : ℕ) (old new : Met)
   pub status_is : status ≡ status_behind closed before
 
 -- over the real files and the real output, which aren't modelled, with no fault met before: of all
--- words that were handed in but the first, the program kept its promises; or memory was wanting
--- before it had them
+-- words that were handed in but the first, the program kept its promises; or it ended with 9, as
+-- where memory is wanting before it has them
 abbrev pub EndsSo : {S E Z : Type 0} → (steps : S → Option (String Z) → S → Type 0) → Result S E
     → Option Ledger → ℕ → ℕ → Type 0
 EndsSo steps args ledger house_faults status =

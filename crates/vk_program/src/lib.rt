@@ -15,4 +15,4 @@ pub use house::{HousePlace, Unopened};
 pub use performing::program;
 pub use settling::Settle;
 pub use starting::{run_over, start};
-pub use store::{STORE, StoreHouse};
+pub use store::StoreHouse;

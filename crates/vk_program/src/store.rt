@@ -17,7 +17,7 @@ use vk_keeper_sql::SqlKeeper;
 
 /// The path of the store. No file that the program writes is this one, or one that SQLite keeps
 /// beside it.
-pub const STORE: &str = "house.sqlite";
+pub(crate) const STORE: &str = "house.sqlite";
 
 /// Who may read and write a store that is made anew: its owner alone, since the secrets of the
 /// bidders are in it. No umask widens this, and the log beside it gets the same. A store that holds

@@ -4,7 +4,7 @@ use Rattle.std.specs.List.{list_all}
 use Rattle.std.specs.Str.{bytes_eq}
 use Rattle.vk_residue.specs.Steps.{◌>>?◌}
 use Rattle.vk_commit.specs.declared.place.Opening.{Opening}
-use Rattle.vk_lines.specs.Tokens.{residue_of, hex_of, one_field}
+use Rattle.vk_lines.specs.Tokens.{residue_of, hex_of, one_field, two_of}
 
 -- ---- bits
 
@@ -38,3 +38,7 @@ opening_of key value =
     hex_of 32 key >>? λ bytes.
     residue_of value >>? λ number.
     Some (opening_by bytes number)
+
+-- the opening whose key and value are the only fields
+abbrev pub last_opening : List (List ℕ) → Option Opening
+last_opening fields = two_of fields >>? λ both. opening_of both.0 both.1

@@ -9,11 +9,12 @@ ghost use Rattle.vk_reply.specs.Tokens.{bits_line};
 ghost use Rattle.vk_reply.specs.Reading.{half_line, whole_line, spent_line, shown_line, challenge_at, reply_head_at, reply_lane_at, wires_at};
 
 use crate::challenge::Challenge;
-use crate::tokens::{bits_line, entry_of, opening_of};
+use crate::tokens::{bits_line, entry_of, last_opening};
 use std::alloc::Global;
+use vk_commit::Opening;
 use vk_io::Shelf;
 use vk_lines::{
-    LineKind, Lines, ReadErr, behind_word, four_fields, read_many, three_fields, two_fields,
+    LineKind, Lines, ReadErr, behind_word, next_field, next_hex32, read_many, read_residue,
 };
 use vk_plan::{Plan, WireKind};
 use vk_seq::Seq;
@@ -173,8 +174,7 @@ fn shown_of(kind: WireKind, bit: bool, text: &[u8]) -> Option<Shown>
 fn half_of(text: &[u8]) -> Option<Shown>
     ensures { result ≡ half_line text.now }
 {
-    let (key, value) = two_fields(behind_word(text, b"h")?)?;
-    let opening = opening_of(key, value)?;
+    let opening = last_opening(behind_word(text, b"h")?)?;
     Some(Shown::Half(opening))
 }
 
@@ -182,9 +182,11 @@ fn half_of(text: &[u8]) -> Option<Shown>
 fn whole_of(text: &[u8]) -> Option<Shown>
     ensures { result ≡ whole_line text.now }
 {
-    let (key, value, next_key, next_value) = four_fields(behind_word(text, b"a")?)?;
-    let first = opening_of(key, value)?;
-    let second = opening_of(next_key, next_value)?;
+    let (key, rest) = next_hex32(behind_word(text, b"a")?)?;
+    let (value, rest) = next_field(rest)?;
+    let value = read_residue(value)?;
+    let first = Opening { key, value };
+    let second = last_opening(rest)?;
     Some(Shown::Whole(first, second))
 }
 
@@ -192,8 +194,8 @@ fn whole_of(text: &[u8]) -> Option<Shown>
 fn spent_of(text: &[u8]) -> Option<Shown>
     ensures { result ≡ spent_line text.now }
 {
-    let (entry, key, value) = three_fields(behind_word(text, b"s")?)?;
+    let (entry, rest) = next_field(behind_word(text, b"s")?)?;
     let second = entry_of(entry)?;
-    let opening = opening_of(key, value)?;
+    let opening = last_opening(rest)?;
     Some(Shown::Spent { second, opening })
 }

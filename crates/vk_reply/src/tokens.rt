@@ -3,14 +3,14 @@
 ghost use Rattle.std.specs.Prelude.{◌≡◌, ◌++◌, codes, option_map, IfErr, IfOk, IfSome, OnOk};
 ghost use Rattle.std.specs.List.{list_all};
 ghost use Rattle.vk_commit.specs.Values.{IsOpening};
-ghost use Rattle.vk_lines.specs.Tokens.{one_field};
+ghost use Rattle.vk_lines.specs.Tokens.{fields_of, one_field};
 ghost use Rattle.vk_lines.specs.declared.errors.ReadErr.TheVariants.{NoMemory};
-ghost use Rattle.vk_reply.specs.Tokens.{are_bits, bits_line, bits_of, entry_of, is_bit, opening_of};
+ghost use Rattle.vk_reply.specs.Tokens.{are_bits, bits_line, bits_of, entry_of, is_bit, last_opening};
 ghost use Rattle.vk_reply.specs.Texts.{bit_character, bits_text};
 
 use std::alloc::Global;
 use vk_commit::Opening;
-use vk_lines::{ReadErr, behind_word, one_field, read_hex32, read_residue, read_word};
+use vk_lines::{ReadErr, behind_word, last_residue, next_hex32, one_field, read_word};
 use vk_residue::NoMemory;
 use vk_seq::Seq;
 
@@ -86,13 +86,13 @@ pub(crate) fn entry_of(text: &[u8]) -> Option<bool>
     }
 }
 
-/// The opening of a key and a value.
-pub(crate) fn opening_of(key: &[u8], value: &[u8]) -> Option<Opening>
-    ensures value { result ≡ opening_of key.now value.now }
+/// The opening whose key and value are the only fields of a text.
+pub(crate) fn last_opening(text: &[u8]) -> Option<Opening>
+    ensures value { result ≡ last_opening (fields_of text.now) }
     ensures right { IfSome result IsOpening }
 {
-    let key = read_hex32(key)?;
-    let value = read_residue(value)?;
+    let (key, rest) = next_hex32(text)?;
+    let value = last_residue(rest)?;
     Some(Opening { key, value })
 }
 

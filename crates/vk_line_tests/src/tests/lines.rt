@@ -4,9 +4,9 @@ use std::process::Abort;
 use std::test::Fail;
 use vk_io::{MemShelf, OutsideErr, PieceShelf, Shelf};
 use vk_lines::{
-    LineKind, Lines, ReadErr, StartErr, Step, behind_word, field, four_fields, one_field,
-    push_decimal, push_hex, read_decimal, read_digests, read_hex16, read_hex32, read_many,
-    read_number,
+    LineKind, Lines, ReadErr, StartErr, Step, behind_word, field, last_hex32, last_residue,
+    next_field, next_hex32, one_field, push_decimal, push_hex, read_decimal, read_digests,
+    read_hex16, read_hex32, read_many, read_number,
 };
 use vk_wire::WireCom;
 
@@ -49,11 +49,10 @@ fn fields_stand_between_single_spaces(rt: HostRuntime) -> Result<(), Fail> {
 fn a_line_is_a_word_and_its_fields(rt: HostRuntime) -> Result<(), Fail> {
     let rest = behind_word(b"s 1 ab 7", b"s").ok_or("another word")?;
     assert!(rt; rest == b"1 ab 7".as_slice());
-    assert!(rt; four_fields(rest).is_none());
-    let fields = four_fields(b"1 ab  7").ok_or("not four fields")?;
-    assert!(rt; fields.1 == b"ab".as_slice());
-    assert!(rt; fields.2.len() == 0);
-    assert!(rt; fields.3 == b"7".as_slice());
+    let fields = next_field(rest).ok_or("one field")?;
+    assert!(rt; fields.0 == b"1".as_slice());
+    assert!(rt; fields.1 == b"ab 7".as_slice());
+    assert!(rt; next_field(b"7").is_none());
     assert!(rt; one_field(b"4 ").is_none());
     assert!(rt; behind_word(b"seal", b"seal").is_none());
     assert!(rt; behind_word(b"seals 4", b"seal").is_none());
@@ -62,6 +61,27 @@ fn a_line_is_a_word_and_its_fields(rt: HostRuntime) -> Result<(), Fail> {
     assert!(rt; read_number(b"lanes 4", b"lanes", 5, 9) == None);
     let digests: Option<WireCom> = read_digests(b"x 00 00", b"x");
     assert!(rt; digests.is_none());
+    Ok(())
+}
+
+#[test]
+fn fields_of_fixed_width_are_read_one_after_another(rt: HostRuntime) -> Result<(), Fail> {
+    let mut text = [b'f'; 67];
+    assert!(rt; next_hex32(&text).is_none());
+    assert!(rt; last_hex32(&text[..64]) == Some([255; 32]));
+    text[64] = b' ';
+    text[66] = b' ';
+    let (bytes, rest) = next_hex32(&text).ok_or("no 32 bytes")?;
+    assert!(rt; bytes == [255; 32]);
+    assert!(rt; rest == b"f ".as_slice());
+    assert!(rt; next_hex32(&text[..64]).is_none());
+    assert!(rt; last_hex32(&text[..65]).is_none());
+    text[63] = b' ';
+    assert!(rt; next_hex32(&text).is_none());
+    let greatest = last_residue(b"2305843009213693950").ok_or("no residue")?;
+    assert!(rt; greatest.get() == 2305843009213693950);
+    assert!(rt; last_residue(b"2305843009213693951").is_none());
+    assert!(rt; last_residue(b"7 ").is_none());
     Ok(())
 }
 

@@ -1,6 +1,6 @@
 use Rattle.std.proofs.Common.{◌≡◌, ◌++◌, ◌∷◌, [], codes, decimal, flat_map, take}
 use Rattle.vk_lines.specs.Forms.{line, spaced}
-use Rattle.vk_claim.proofs.head.push_each.Given as goal
+use Rattle.vk_claim.proofs.front.push_each.Given as goal
 
 abbrev pub invariant-loop-number : goal.invariant-loop-number
 invariant-loop-number l =
