@@ -24,7 +24,7 @@ use Rattle.vk_audit.specs.Inputs.{extract_inputs}
 use Rattle.vk_audit.specs.Answers.{TellsConfrontation, TellsExtraction, TellsReport, TellsVerdict}
 use Rattle.vk_audit.specs.Statuses.{AcceptsTwoFiles, BindsSecret, IsExtracted, IsReported, IsSame, IsVerified}
 use Rattle.vk_claims.specs.Statuses.{AcceptsTwoClaims, IsClaimExtracted, IsClaimVerified, IsSameClaim, TellsClaimExtraction, TellsClaimVerdict}
-use Rattle.vk_claim.specs.declared.head.ClaimFront.{ClaimFront}
+use Rattle.vk_claim.specs.declared.front.ClaimFront.{ClaimFront}
 use Rattle.vk_claims.specs.Soundness.{BeginsWithClaim, TellsValues}
 use Rattle.vk_claims.specs.ClaimSamples.{OfSomeMatching}
 use Rattle.vk_auctioneer.specs.Leaving.{LeavesFiles, LeavesStopped}

@@ -21,8 +21,8 @@ use Rattle.vk_bids.specs.FileHeadline.{IsOpenedBy, LaneAgrees, differing_in}
 use Rattle.vk_bids.specs.OpenedBehind.{differing}
 use Rattle.vk_bids.specs.Texts.{has_one_bid}
 use Rattle.vk_bids.proofs.Agreeing.{no_first_clash}
-use Rattle.vk_claim.specs.declared.head.ClaimHead.{ClaimHead}
-use Rattle.vk_claim.specs.declared.head.ClaimFront.{ClaimFront}
+use Rattle.vk_claim.specs.declared.front.ClaimHead.{ClaimHead}
+use Rattle.vk_claim.specs.declared.front.ClaimFront.{ClaimFront}
 use Rattle.vk_claim.specs.Acceptance.{ClaimAccepts}
 use Rattle.vk_claim.specs.Claims.{IsAdmitted, PlannedFront, planned}
 use Rattle.vk_claim.specs.Extraction.{ClaimExtraction, IsOfClaim, OpenedClaim, TwoClaimsAccepted, claim_extraction_in}

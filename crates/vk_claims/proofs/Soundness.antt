@@ -13,8 +13,8 @@ use Rattle.vk_bids.specs.Soundness.{TellsTwoOpenings}
 use Rattle.vk_bids.specs.Texts.{agreements_text, clash_text}
 use Rattle.vk_bids.proofs.Soundness.{seat_lines}
 use Rattle.vk_bids.proofs.Standing.{clash_stands}
-use Rattle.vk_claim.specs.declared.head.ClaimFront.{ClaimFront}
-use Rattle.vk_claim.specs.declared.head.ClaimHead.{ClaimHead}
+use Rattle.vk_claim.specs.declared.front.ClaimFront.{ClaimFront}
+use Rattle.vk_claim.specs.declared.front.ClaimHead.{ClaimHead}
 use Rattle.vk_words.specs.declared.claim.Kind.{Kind}
 use Rattle.vk_claim.specs.Extraction.{IsClaimOpened, OpenedClaim, TwoClaimsAccepted}
 use Rattle.vk_claim.specs.Printing.{claim_extraction_text, kind_text, values_text}

@@ -12,7 +12,7 @@ use Rattle.vk_uniform.specs.OutcomeLaws.{outcome_exists}
 use Rattle.vk_uniform.specs.UniformPlans.{uniform_values}
 use Rattle.vk_matching.specs.MatchingPlans.{matching_values}
 use Rattle.vk_matching.specs.Stability.{IsPermutation, IsStable}
-use Rattle.vk_claim.specs.declared.head.ClaimHead.{ClaimHead}
+use Rattle.vk_claim.specs.declared.front.ClaimHead.{ClaimHead}
 use Rattle.vk_report.specs.declared.sample.SampleCase.{SampleCase}
 use Rattle.vk_report.specs.declared.sample.Sizes.{Sizes}
 use Rattle.vk_report.specs.Samples.{case_of}

@@ -8,7 +8,7 @@ use Rattle.vk_bids.specs.declared.bids.LaneBids.{LaneBids}
 use Rattle.vk_bids.specs.declared.bids.OpenedBid.{OpenedBid}
 use Rattle.vk_bids.specs.Opening.{OpensSeal}
 use Rattle.vk_bids.specs.Soundness.{AreSeatLines}
-use Rattle.vk_claim.specs.declared.head.ClaimFront.{ClaimFront}
+use Rattle.vk_claim.specs.declared.front.ClaimFront.{ClaimFront}
 use Rattle.vk_claim.specs.Printing.{kind_text, values_text}
 use Rattle.vk_claim.specs.Texts.{claim_front_text}
 use Rattle.vk_claims.specs.Circuits.{claimed}
