@@ -63,6 +63,7 @@ fn maj(x: u32x4, y: u32x4, z: u32x4) -> u32x4
 // copies of `x` than rotating it afresh each time.
 
 #[inline(always)]
+#[tactic(auto, using(crate::proofs::Lanes::lane_fits, crate::proofs::Rotations::big_sigma0_nested))]
 fn big_sigma0(x: u32x4) -> u32x4
     ensures { (j : ℕ) → j < 4 → slice_index result j ≡ big_sigma0 (slice_index x j) }
 {
@@ -70,6 +71,7 @@ fn big_sigma0(x: u32x4) -> u32x4
 }
 
 #[inline(always)]
+#[tactic(auto, using(crate::proofs::Lanes::lane_fits, crate::proofs::Rotations::big_sigma1_nested))]
 fn big_sigma1(x: u32x4) -> u32x4
     ensures { (j : ℕ) → j < 4 → slice_index result j ≡ big_sigma1 (slice_index x j) }
 {
@@ -77,23 +79,19 @@ fn big_sigma1(x: u32x4) -> u32x4
 }
 
 #[inline(always)]
+#[tactic(auto, using(crate::proofs::Lanes::lanes, crate::proofs::Lanes::lane_fits, crate::proofs::Rotations::small_sigma0_nested))]
 pub(crate) fn small_sigma0(x: u32x4) -> u32x4
     ensures { (j : ℕ) → j < 4 → slice_index result j ≡ small_sigma0 (slice_index x j) }
 {
-    xor(
-        rotate_right(xor(x, rotate_right(x, 11)), 7),
-        shift_right(x, 3),
-    )
+    rotate_right(xor(x, rotate_right(x, 11)), 7) ^ shift_right(x, 3)
 }
 
 #[inline(always)]
+#[tactic(auto, using(crate::proofs::Lanes::lanes, crate::proofs::Lanes::lane_fits, crate::proofs::Rotations::small_sigma1_nested))]
 pub(crate) fn small_sigma1(x: u32x4) -> u32x4
     ensures { (j : ℕ) → j < 4 → slice_index result j ≡ small_sigma1 (slice_index x j) }
 {
-    xor(
-        rotate_right(xor(x, rotate_right(x, 2)), 17),
-        shift_right(x, 10),
-    )
+    rotate_right(xor(x, rotate_right(x, 2)), 17) ^ shift_right(x, 10)
 }
 
 /// One round (6.2.2, step 3).
