@@ -3,9 +3,9 @@ sentences."""
 import re
 from collections import namedtuple
 
-from amounts import Unit
-from fields import bytes16, lane_count, number, text, width_number
-from files import Lines, Verdict
+from .amounts import Unit
+from .fields import bytes16, lane_count, number, text, width_number
+from .files import Lines, Verdict
 
 DEADLINES = ("seals", "secrets", "board", "draw", "reply")
 MOST_SEATS = {"vickrey": 64, "uniform": 512, "matching": 512}

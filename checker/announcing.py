@@ -3,15 +3,15 @@ import hashlib
 import os
 import re
 
-from amounts import NoAmount, Unit
-from announcement import (
+from .amounts import NoAmount, Unit
+from .announcement import (
     Announcement, DEADLINES, kind_of, read_announcement, seat_count, text_of, time_of,
 )
-from asking import Unfit, asked, say
-from fields import lane_count, number, text
-from files import Verdict, write_new
-from sentences import DUTIES, announcement_sentences
-from words import Usage, parsed
+from .asking import Unfit, asked, say
+from .fields import lane_count, number, text
+from .files import Verdict, write_new
+from .sentences import DUTIES, announcement_sentences
+from .words import Usage, parsed
 
 STOPPED = b"announce nothing was written"
 OPTIONS = ["kind", "unit", "decimals", "highest", "width", "reserve", "lanes", "auditors",

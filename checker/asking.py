@@ -1,7 +1,7 @@
 """Questions to whoever sits at the keyboard, or to lines of standard input."""
 import sys
 
-from files import Verdict
+from .files import Verdict
 
 
 class Unfit(Exception):

@@ -7,15 +7,15 @@ import subprocess
 import tempfile
 from collections import namedtuple
 
-from coins import joined
-from commitments import text_of_bits
-from files import Verdict, digest_of
-from heads import BoardHead, ClaimHead, is_file, start_of
-from progress import Progress
-from published import Board, Claim
-from seals import read_secret
-from sentences import listed, outcome_sentence
-from verdict import verify
+from .coins import joined
+from .commitments import text_of_bits
+from .files import Verdict, digest_of
+from .heads import BoardHead, ClaimHead, is_file, start_of
+from .progress import Progress
+from .published import Board, Claim
+from .seals import read_secret
+from .sentences import listed, outcome_sentence
+from .verdict import verify
 
 # The digest and the bits are texts; the parts are lines of a file; the secret is a file's name as
 # it was given with the path to it. All but the digest may be None. Seats that are left out are

@@ -3,12 +3,12 @@ import os
 import re
 import shutil
 
-from amounts import Unit
-from announcement import Announcement, read_announcement
-from asking import say
-from audit import Audit, Written, parts_of
-from sentences import listed
-from words import Usage, parsed
+from .amounts import Unit
+from .announcement import Announcement, read_announcement
+from .asking import say
+from .audit import Audit, Written, parts_of
+from .sentences import listed
+from .words import Usage, parsed
 
 
 def of_form(name, form, word):

@@ -4,14 +4,14 @@ import os
 import textwrap
 import time
 
-from amounts import NoAmount
-from announcement import read_announcement
-from asking import Unfit, asked, say
-from fields import seat_number
-from files import Verdict, write_new
-from seals import sealed
-from sentences import listed, time_said
-from words import parsed
+from .amounts import NoAmount
+from .announcement import read_announcement
+from .asking import Unfit, asked, say
+from .fields import seat_number
+from .files import Verdict, write_new
+from .seals import sealed
+from .sentences import listed, time_said
+from .words import parsed
 
 STOPPED = b"bid nothing was sealed"
 

@@ -1,29 +1,26 @@
 #!/usr/bin/env python3
-"""check.py COMMAND WORD..: a second checker, and all that a bidder or an auditor needs to take
-part, for those who would rather not trust one program. `check.py --help` lists its commands.
+"""check.py COMMAND WORD..: the second checker, as a script that can be run from any folder, also
+through a link. `check.py --help` lists its commands.
 
-It is written from docs/FORMATS.md alone, and needs nothing but Python 3.8 or newer. Nothing of it
-is proved. Its rooms lie beside it:
-
-    fields, files         what may stand in a line; how files are read and written
-    commitments, draws    digests that fix numbers; what is drawn from a seed
-    circuits, published   the circuits; boards and claim files
-    verdict               `verify` and `claim-verify`
-    seals, coins          seals and secrets; challenges
-    announcement, amounts the file that everybody starts from, and amounts in its unit
-    announcing, bidding   a new announcement; a bid at a seat of one
-    asking, progress      what people are asked; how far long work is
-    reporting, sentences  what files say, for people
-    heads, audit          the audit of an auction; auditing has its words
-    intake                how an auctioneer takes seals and secrets
-    commands, words       what each command is called, and which words it has
+Its modules are the package whose folder this file lies in. The package is loaded from there, by its
+place, so that the search path of Python is left as it is: `python3 -I` has no folder of a script on
+it.
 """
 import os
 import sys
+from importlib import import_module
+from importlib.util import module_from_spec, spec_from_file_location
 
-sys.path.insert(0, os.path.dirname(os.path.realpath(__file__)))  # `python3 -I` leaves it out
 
-from commands import main  # noqa: E402
+def load_package(name):
+    """Loads the package whose folder this file lies in, under this name."""
+    folder = os.path.dirname(os.path.realpath(__file__))
+    spec = spec_from_file_location(name, os.path.join(folder, "__init__.py"),
+                                   submodule_search_locations=[folder])
+    sys.modules[name] = module_from_spec(spec)
+    spec.loader.exec_module(sys.modules[name])
+
 
 if __name__ == "__main__":
-    sys.exit(main())
+    load_package("checker")
+    sys.exit(import_module("checker.commands").main())

@@ -1,11 +1,11 @@
 """Challenges: shares of several auditors, the coin that joins them, and the derived challenge."""
 import hashlib
 
-from commitments import share_digest, text_of_bits
-from draws import Draws
-from fields import auditor_number, bits, bytes16, bytes32, hexadecimal, lane_count
-from files import Lines, Verdict, write
-from published import Board
+from .commitments import share_digest, text_of_bits
+from .draws import Draws
+from .fields import auditor_number, bits, bytes16, bytes32, hexadecimal, lane_count
+from .files import Lines, Verdict, write
+from .published import Board
 
 
 def write_challenge(name, drawn, read):

@@ -5,12 +5,12 @@ import textwrap
 from collections import namedtuple
 from importlib import import_module
 
-from fields import (
+from .fields import (
     auditor_number, bytes16, bytes32, file_name, lane_count, number64, seat_number, values_of,
     width_number,
 )
-from files import Verdict
-from words import Usage
+from .files import Verdict
+from .words import Usage
 
 USAGE = (
     b"usage: vickrey seal|announce|submit|prove|answer|show|verify|extract|confront|report|sample"
@@ -84,7 +84,7 @@ def function_of(path):
     """The function of a command. Its module is loaded only then, so that no command waits for what
     another one needs."""
     module, _, name = path.partition(".")
-    return getattr(import_module(module), name)
+    return getattr(import_module(f".{module}", __package__), name)
 
 
 def help_lines(names):

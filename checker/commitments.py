@@ -2,7 +2,7 @@
 import hashlib
 import struct
 
-from fields import MODULUS
+from .fields import MODULUS
 
 # Letters, auction, seat, lane, slot, key, value; and letters, auction, auditor, how many bits, key,
 # the bits

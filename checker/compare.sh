@@ -293,7 +293,7 @@ joined() {
 }
 
 case='the tests of the second checker'
-agree OK "$(cd "$(dirname "$checker")" && "$python" -m unittest discover -s tests -t . 2>&1 | tail -n 1)"
+agree OK "$(cd "$(dirname "$checker")" && "$python" -m unittest discover -s tests -t .. 2>&1 | tail -n 1)"
 sealed
 joined
 auction 1 1 1 0

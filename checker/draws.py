@@ -3,7 +3,7 @@ import hashlib
 import itertools
 import struct
 
-from fields import MODULUS
+from .fields import MODULUS
 
 
 def quarter_round(state, a, b, c, d):

@@ -2,7 +2,7 @@
 import os
 import stat
 
-from fields import values_of
+from .fields import values_of
 
 LONGEST_FILE = 2**30
 LONGEST_LINE = 256

@@ -2,8 +2,8 @@
 compares it with an announcement. Where a line isn't of its form, nothing is said."""
 import re
 
-from files import LONGEST_LINE, Verdict, size_of
-from sentences import Outcome
+from .files import LONGEST_LINE, Verdict, size_of
+from .sentences import Outcome
 
 MOST_LINES = 512 * 65 + 200  # of any head
 

@@ -9,15 +9,15 @@ import shutil
 import subprocess
 import tempfile
 
-from announcement import read_announcement
-from asking import say
-from audit import printable
-from auditing import left_out_of, program_of
-from bidding import fingerprint
-from files import STORE, Verdict
-from sentences import listed, time_said
-from seals import read_seal
-from words import Usage, parsed
+from .announcement import read_announcement
+from .asking import say
+from .audit import printable
+from .auditing import left_out_of, program_of
+from .bidding import fingerprint
+from .files import STORE, Verdict
+from .sentences import listed, time_said
+from .seals import read_seal
+from .words import Usage, parsed
 
 TRIAL = ".trial-"  # how folders begin in which files are tried
 PHASES = ["taking", "proved", "answered"]

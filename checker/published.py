@@ -1,9 +1,9 @@
 """What an auctioneer publishes: boards and claim files, before their lanes and lane by lane."""
-from circuits import KINDS, board_circuit
-from fields import (
+from .circuits import KINDS, board_circuit
+from .fields import (
     bytes16, bytes32, lane_count, number, number64, residue, seat_number, width_number,
 )
-from files import Verdict
+from .files import Verdict
 
 
 class Front:

@@ -2,15 +2,15 @@
 import hashlib
 import os
 
-from announcement import read_announcement
-from asking import say
-from files import Lines, Verdict
-from heads import BoardHead, ClaimHead, start_of
-from progress import Progress
-from published import Board, Claim
-from seals import read_seal
-from sentences import outcome_of_board, outcome_of_claim, report_sentences
-from words import parsed
+from .announcement import read_announcement
+from .asking import say
+from .files import Lines, Verdict
+from .heads import BoardHead, ClaimHead, start_of
+from .progress import Progress
+from .published import Board, Claim
+from .seals import read_seal
+from .sentences import outcome_of_board, outcome_of_claim, report_sentences
+from .words import parsed
 
 
 def read_published(name):

@@ -1,10 +1,10 @@
 """Seals and secrets: how a bid is sealed, and how both files are read."""
 from collections import namedtuple
 
-from commitments import digest
-from draws import Draws
-from fields import MODULUS, bytes16, bytes32, hexadecimal, lane_count, number, residue, seat_number
-from files import Lines, Verdict, write
+from .commitments import digest
+from .draws import Draws
+from .fields import MODULUS, bytes16, bytes32, hexadecimal, lane_count, number, residue, seat_number
+from .files import Lines, Verdict, write
 
 Sealed = namedtuple("Sealed", "auction seat bid lanes")  # the bid is None in a seal
 

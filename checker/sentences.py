@@ -1,7 +1,7 @@
 """What files say, in sentences for people."""
 from collections import namedtuple
 
-from amounts import Unit
+from .amounts import Unit
 
 PLAIN = Unit(None, 0)  # where no unit is known
 

@@ -1,8 +1,8 @@
 """The verdict: whether a reply fits a board or a claim file and a challenge."""
-from commitments import digest, half_of
-from fields import MODULUS, bits, bytes32, lane_count, number, residue
-from files import Lines, Verdict
-from published import Board, Claim
+from .commitments import digest, half_of
+from .fields import MODULUS, bits, bytes32, lane_count, number, residue
+from .files import Lines, Verdict
+from .published import Board, Claim
 
 ENTRY = number(0, 1)
 

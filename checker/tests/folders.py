@@ -8,8 +8,8 @@ import tempfile
 import unittest
 from unittest import mock
 
-from announcement import Announcement
-from amounts import Unit
+from ..announcement import Announcement
+from ..amounts import Unit
 
 DATA = os.path.join(os.path.dirname(__file__), "..", "..", "crates", "vickrey", "data")
 BENCH = os.path.join(os.path.dirname(__file__), "..", "..", "bench")

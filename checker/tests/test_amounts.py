@@ -1,7 +1,7 @@
 """Amounts, as people write and read them."""
 import unittest
 
-from amounts import NoAmount, Unit, in_words
+from ..amounts import NoAmount, Unit, in_words
 
 EURO, YEN = Unit("EUR", 2), Unit("JPY", 0)
 

@@ -1,7 +1,7 @@
 """The form of announcements, line by line."""
-from announcement import read_announcement, text_of, time_of
-from files import Verdict
-from tests.folders import InFolder, announced
+from ..announcement import read_announcement, text_of, time_of
+from ..files import Verdict
+from .folders import InFolder, announced
 
 LINES = [line.decode() for line in text_of(announced(width=20, lanes=40, reserve=5000))]
 

@@ -2,11 +2,11 @@
 import os
 import stat
 
-from announcement import read_announcement
-from announcing import announce, announcement
-from files import Verdict
-from tests.folders import InFolder
-from words import Usage
+from ..announcement import read_announcement
+from ..announcing import announce, announcement
+from ..files import Verdict
+from .folders import InFolder
+from ..words import Usage
 
 GIVEN = ["--kind", "vickrey", "--unit", "EUR", "--decimals", "2", "--highest", "10000",
          "--reserve", "50", "--lanes", "40", "--auditors", "3", "--seals", "2026-12-01 12:00",

@@ -5,13 +5,13 @@ import shutil
 import subprocess
 import sys
 
-from announcement import text_of
-from auditing import audit, audit_words
-from coins import coin_part
-from files import Verdict
-from heads import BoardHead, ClaimHead
-from tests.folders import AUCTION, BENCH, DATA, InFolder, announced
-from words import Usage
+from ..announcement import text_of
+from ..auditing import audit, audit_words
+from ..coins import coin_part
+from ..files import Verdict
+from ..heads import BoardHead, ClaimHead
+from .folders import AUCTION, BENCH, DATA, InFolder, announced
+from ..words import Usage
 
 ALL_HOLD = ["the board's digest is the one that was public before the draw",
             "the board's id is the announced one", "the board's width is the announced one",

@@ -3,13 +3,13 @@ import os
 import re
 import stat
 
-from announcement import text_of
-from bidding import bid
-from files import Verdict, write_new
-from seals import read_seal, read_secret
-from tests.folders import AUCTION, InFolder, announced
-from commitments import digest
-from fields import MODULUS
+from ..announcement import text_of
+from ..bidding import bid
+from ..files import Verdict, write_new
+from ..seals import read_seal, read_secret
+from .folders import AUCTION, InFolder, announced
+from ..commitments import digest
+from ..fields import MODULUS
 
 TERMS = {"width": 20, "lanes": 3, "reserve": 5000, "seats": {7: "Ann", 9: "Bo"}}
 

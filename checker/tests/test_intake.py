@@ -2,11 +2,11 @@
 checks/announced.sh tries it with the program."""
 import os
 
-from files import Verdict
-from intake import clear_trials, compare_order, fault_of_seal, seats_in
-from seals import sealed
-from tests.folders import AUCTION, InFolder, announced
-from words import Usage
+from ..files import Verdict
+from ..intake import clear_trials, compare_order, fault_of_seal, seats_in
+from ..seals import sealed
+from .folders import AUCTION, InFolder, announced
+from ..words import Usage
 
 
 class Intake(InFolder):

@@ -2,8 +2,8 @@
 import sys
 from unittest import mock
 
-from progress import PAUSE, SOON, Progress
-from tests.folders import InFolder, Stream
+from ..progress import PAUSE, SOON, Progress
+from .folders import InFolder, Stream
 
 
 class Told(InFolder):

@@ -1,12 +1,12 @@
 """Outcomes and reports in sentences."""
 import os
 
-from amounts import Unit
-from files import Verdict
-from heads import BoardHead
-from reporting import report
-from sentences import Outcome, outcome_sentence
-from tests.folders import DATA, InFolder
+from ..amounts import Unit
+from ..files import Verdict
+from ..heads import BoardHead
+from ..reporting import report
+from ..sentences import Outcome, outcome_sentence
+from .folders import DATA, InFolder
 
 EURO = Unit("EUR", 2)
 

@@ -1,13 +1,13 @@
 """What is worked out in docs/FORMATS.md, and verdicts on the smallest board."""
 import os
 
-from bidding import fingerprint
-from coins import coin_board, coin_join, coin_part
-from commitments import digest
-from files import Verdict
-from seals import seal
-from tests.folders import AUCTION, DATA, InFolder
-from verdict import verify_board
+from ..bidding import fingerprint
+from ..coins import coin_board, coin_join, coin_part
+from ..commitments import digest
+from ..files import Verdict
+from ..seals import seal
+from .folders import AUCTION, DATA, InFolder
+from ..verdict import verify_board
 
 SMALLEST = [os.path.join(DATA, name).encode() for name in ("board", "challenge-0", "reply-0")]
 

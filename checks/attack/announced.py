@@ -5,6 +5,10 @@ import os
 import re
 import sys
 
+sys.path.insert(0, os.path.join(os.path.dirname(os.path.abspath(__file__)), "..", ".."))
+from checker.announcement import read_announcement, text_of  # noqa: E402
+from checker.files import Verdict  # noqa: E402
+
 NUMBER = rb"(0|[1-9][0-9]{0,19})"
 TEXT = rb"([^\n]{1,200})"
 TIME = rb"(none|(\d{4})-(\d\d)-(\d\d)T([01]\d|2[0-3]):[0-5]\d:[0-5]\dZ)"
@@ -208,13 +212,6 @@ class ReadAnnouncement:
 
 def checked_line(path):
     """The fault line of a file by the second checker, or 0. What is read is written as it was."""
-    here = os.path.dirname(os.path.abspath(__file__))
-    sys.path.insert(0, os.path.join(here, "..", "..", "checker"))
-    try:
-        from announcement import read_announcement, text_of
-        from files import Verdict
-    finally:
-        del sys.path[0]
     name = os.fsencode(path)
     start = b"malformed %s line " % name
     try:
