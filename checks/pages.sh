@@ -90,7 +90,7 @@ page docs/MATCHING.md "$system" 'claim-sample matching 2' 'inputs 32 lanes 8 wir
 begin MANY
 page docs/MANY.md "$system" '     20 accepted' '     20 width 16 lanes 40 seals 3 phase answered' 20 < <(blocks docs/MANY.md)
 begin METHOD
-page docs/METHOD.md "$system" coin.svg crates.svg < <(blocks docs/METHOD.md)
+page docs/METHOD.md "$PWD/crates/vickrey/out:$system" coin.svg crates.svg < <(blocks docs/METHOD.md)
 begin manual
 page docs/vickrey.1 "$PWD/crates/vickrey/out:$system" answered accepted 'joined auditors 2 bits 2' 'held seat 7' < <(examples docs/vickrey.1)
 echo "$passed passed, $failed failed"
