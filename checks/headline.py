@@ -1,12 +1,13 @@
 #!/usr/bin/env python3
-"""checks/headline.py [--write]: the definitions that one has to read to believe the headline.
+"""checks/headline.py [--write | --list CLAUSE]: the definitions that one has to read to believe the headline.
 
 Each clause of `run` on what `extract` prints is followed down to the words of the kit. A definition
 is needed where a needed one names it, and so are the types of the code, with those of their fields,
 and the members of traits. docs/DEFINITIONS.md begins with how definitions are read. Then it has all
 that soundness says, text by text, what completeness names besides, and the numbers of the other
-clauses: --write writes that part anew, and without it the part there has to be this one. Soundness
-may rest on so many definitions and lines, and no more.
+clauses: --write writes that part anew, and without it the part there has to be this one. --list
+prints what another clause rests on besides. Soundness may rest on so many definitions and lines,
+and no more.
 """
 import functools
 import os
@@ -288,47 +289,50 @@ def group_of(place, name):
 def soundness():
     found = count("sound")
     yield wrapped(
-        "What is true of what `extract` prints with status 0 or 3, whatever the files are and "
-        "whoever made them: that is the clause `sound` of `run`, and its text comes first. It "
-        f"names definitions, and these name others: {numbers_of(found)} in {found.files} files, "
-        f"{found.types} types that the code declares, and {found.members} members of traits. All "
-        "of them stand here, from the clause down, each with what the sources say of it. None is "
-        "of accepted replies, of a circuit, or of how words are read. Whoever reads this part has "
-        "read all that soundness says, and has to believe nothing else of the repository for it.")
+        "The clause `sound` of `run` says what is true of what `extract` prints with status 0 or 3, "
+        "whatever the files are and whoever made them. Its text comes first. It names definitions, "
+        f"and these name others: {numbers_of(found)} in {found.files} files, {found.types} types "
+        f"that the code declares, and {found.members} members of traits. All of them are here, from "
+        "the clause down, each with the comment of the sources. None speaks of accepted replies, of "
+        "a circuit, or of how words are read. After this part you have read all that soundness "
+        "says, and have to believe nothing else of the repository for it.")
     yield wrapped(
-        "`checks/headline.py` finds and counts them, writes this part, and fails where there are "
-        f"more than {MOST_DEFINITIONS} definitions or {MOST_LINES} lines.")
+        "`checks/headline.py` finds and counts them, writes this part, and fails if there are more "
+        f"than {MOST_DEFINITIONS} definitions or {MOST_LINES} lines.")
     for heading, _ in GROUPS:
         yield f"### {heading}"
         yield from (entry(*key) for key in closure("sound")[0] if group_of(*key) == heading)
 
 
-def completeness():
-    found, known = count("complete"), closure("sound")[0]
-    more = {}
-    for place, name in closure("complete")[0]:
+def besides(clause):
+    """What a clause names that soundness doesn't, by file."""
+    known, more = closure("sound")[0], {}
+    for place, name in closure(clause)[0]:
         if (place, name) not in known and place != RUN:
             more.setdefault(place, []).append(name)
+    return more
+
+
+def completeness():
+    found, more = count("complete"), besides("complete")
     new = sum(len(names) for place, names in more.items() if not place.endswith(".rt"))
     yield "## What completeness names besides"
     yield wrapped(
-        "Where the words are `extract` and five names, and both replies are accepted with the "
-        "board for different challenges, the status is 0 or 3, unless the command is stopped. "
-        "That is the clause `complete` of `run`. What an accepted reply is takes more: the clause "
-        f"rests on {numbers_of(found)} in {found.files} files, and on {found.types} types. These "
-        f"{new} definitions are not among those above, nor are the types in files of the code:")
-    yield "\n".join(["| File | Definitions |", "|---|---|", *(
-        f"| `{place}` | {', '.join(f'`{name}`' for name in names)} |"
-        for place, names in sorted(more.items()))])
+        "The clause `complete` of `run`: if the words are `extract` and five names, and both replies "
+        "are accepted with the board for different challenges, the status is 0 or 3, unless the "
+        "command is stopped. What an accepted reply is takes more: the clause rests on "
+        f"{numbers_of(found)} in {found.files} files, and on {found.types} types. {new} of these "
+        "definitions are not among those above; `checks/headline.py --list complete` prints their "
+        "names, file by file, and takes any other clause too.")
 
 
 def numbers():
     yield "## What each clause rests on"
     yield wrapped(
-        "`sound` and `complete` are proved from `headline`, with the status of words that are no "
-        "command. `headline` says besides that what is printed is what the replies show, which two "
-        "openings it is, and of each seal which of the two words. The other three say the same of "
-        "`claim-extract` and claim files. Counted are definitions, down to those of the kit, with "
+        "`sound` and `complete` are proved from `headline` and from the status of words that are no "
+        "command. `headline` also says that the replies show what is printed, which two openings it "
+        "is, and for each seal which of the two words. The other three say the same of "
+        "`claim-extract` and claim files. The table counts definitions, down to those of the kit, "
         "their lines and files, the types that the code declares, and the words of the kit.")
     rows = ["| Clause of `run` | Says | Definitions | Lines | Files | Types | Of the kit |",
             "|---|---|---|---|---|---|---|"]
@@ -366,7 +370,18 @@ def faults(before):
             yield f"docs/DEFINITIONS.md doesn't say what {word} of the kit is"
 
 
+def listed(clause):
+    """The names of what a clause rests on beside soundness, file by file."""
+    return "\n".join(f"{place}: {', '.join(names)}" for place, names in sorted(besides(clause).items()))
+
+
 def main(words):
+    if words[:1] == ["--list"] and words[1:2] and words[1] in CLAUSES[1:] and len(words) == 2:
+        print(listed(words[1]))
+        return 0
+    if words not in ([], ["--write"]):
+        print(__doc__)
+        return 2
     with open(PAGE, encoding="utf-8") as file:
         text = file.read()
     before, heading, rest = text.partition(HEADING)
