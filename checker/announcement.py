@@ -125,11 +125,16 @@ def read_lines(lines):
 
 def read_announcement(name):
     with Lines(name) as lines:
-        try:
-            return read_lines(lines)
-        except Verdict as verdict:
-            verdict.more = verdict.more or wanted(lines)
-            raise
+        return announcement_in(lines)
+
+
+def announcement_in(lines):
+    """The announcement that these lines are, whatever they were read of."""
+    try:
+        return read_lines(lines)
+    except Verdict as verdict:
+        verdict.more = verdict.more or wanted(lines)
+        raise
 
 
 def wanted(lines):

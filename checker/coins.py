@@ -39,13 +39,18 @@ def read_coin(lines):
 
 
 def joined(coin):
-    """The challenge of all shares: in each lane the exclusive or of their bits. Each share has to
-    open its part."""
+    """The parts of a coin, and the challenge of its shares."""
     with Lines(coin) as lines:
-        auction, parts, shares = read_coin(lines)
+        return joined_in(lines)
+
+
+def joined_in(lines):
+    """The challenge of all shares of the coin that these lines are: in each lane the exclusive or
+    of their bits. Each share has to open its part."""
+    auction, parts, shares = read_coin(lines)
     for auditor, (part, (key, drawn)) in enumerate(zip(parts, shares), 1):
         if share_digest(auction, auditor, key, drawn) != part:
-            raise Verdict(1, b"refused %s part %d" % (coin, auditor))
+            raise Verdict(1, b"refused %s part %d" % (lines.name, auditor))
     return parts, [sum(lane) % 2 for lane in zip(*(drawn for _, drawn in shares))]
 
 

@@ -1,6 +1,7 @@
 """What may stand between two spaces of a line, or as a word of a command: each kind is a reader of
 bytes that answers None where they are none of it."""
 import re
+from binascii import unhexlify
 
 MODULUS = 2**61 - 1
 LONGEST_TEXT = 200
@@ -39,7 +40,7 @@ def number(least, most):
 def digits(count):
     """So many bytes in lower-case hexadecimal."""
     form = re.compile(rb"[0-9a-f]{%d}" % (2 * count))
-    return lambda field: bytes.fromhex(field.decode()) if form.fullmatch(field) else None
+    return lambda field: unhexlify(field) if form.fullmatch(field) else None
 
 
 def hexadecimal(data):

@@ -6,7 +6,21 @@ from .draws import Draws
 from .fields import MODULUS, bytes16, bytes32, hexadecimal, lane_count, number, residue, seat_number
 from .files import Lines, Verdict, write
 
-Sealed = namedtuple("Sealed", "auction seat bid lanes")  # the bid is None in a seal
+# A lane of a seal is two digests, and the bid is None there; a lane of a secret is the mask and two
+# keys.
+Sealed = namedtuple("Sealed", "auction seat bid lanes")
+
+
+def digests_of(auction, seat, lane, keys, halves):
+    """The digests of one lane of a seal, which fix the mask and the rest."""
+    return [digest(auction, seat, lane, slot, keys[slot], halves[slot]) for slot in (0, 1)]
+
+
+def seal_lines(auction, seat, lanes):
+    """The lines of a seal with these digests of each lane."""
+    head = [b"vickrey-seal 1", b"auction " + hexadecimal(auction), b"seat %d" % seat]
+    digests = [b"x %s %s" % tuple(map(hexadecimal, lane)) for lane in lanes]
+    return [*head, b"lanes %d" % len(lanes), *digests, b"end"]
 
 
 def sealed(auction, seat, bid, width, lanes, seed):
@@ -21,13 +35,18 @@ def sealed(auction, seat, bid, width, lanes, seed):
         if mask is None:
             raise Verdict(8, b"seal dry seed lane %d" % lane)
         keys = [draws.key(), draws.key()]
-        halves = [mask, (bid - mask) % MODULUS]
-        made = [digest(auction, seat, lane, slot, keys[slot], halves[slot]) for slot in (0, 1)]
+        seals.append(digests_of(auction, seat, lane, keys, [mask, (bid - mask) % MODULUS]))
         secrets.append(b"x %d %s %s" % (mask, *map(hexadecimal, keys)))
-        seals.append(b"x %s %s" % tuple(map(hexadecimal, made)))
-    head, count = [b"auction " + hexadecimal(auction), b"seat %d" % seat], b"lanes %d" % lanes
-    return ([b"vickrey-secret 1", *head, b"bid %d" % bid, count, *secrets, b"end"],
-            [b"vickrey-seal 1", *head, count, *seals, b"end"])
+    head = [b"vickrey-secret 1", b"auction " + hexadecimal(auction), b"seat %d" % seat]
+    secret = [*head, b"bid %d" % bid, b"lanes %d" % lanes, *secrets, b"end"]
+    return secret, seal_lines(auction, seat, seals)
+
+
+def opened_seal(secret):
+    """The digests of each lane of the seal that a secret opens."""
+    auction, seat, bid, lanes = secret
+    return [digests_of(auction, seat, lane, keys, [mask, (bid - mask) % MODULUS])
+            for lane, (mask, *keys) in enumerate(lanes, 1)]
 
 
 def seal(auction, seat, bid, width, lanes, seed, secret_name, seal_name):
@@ -54,12 +73,22 @@ def read_lanes(lines, *kinds):
 
 def read_seal(name):
     with Lines(name) as lines:
-        auction, seat = read_head(lines, b"vickrey-seal")
-        return Sealed(auction, seat, None, read_lanes(lines, bytes32, bytes32))
+        return seal_in(lines)
+
+
+def seal_in(lines):
+    """The seal that these lines are, whatever they were read of."""
+    auction, seat = read_head(lines, b"vickrey-seal")
+    return Sealed(auction, seat, None, read_lanes(lines, bytes32, bytes32))
 
 
 def read_secret(name):
     with Lines(name) as lines:
-        auction, seat = read_head(lines, b"vickrey-secret")
-        [bid] = lines.next(b"bid", number(0, 2**40 - 1))
-        return Sealed(auction, seat, bid, read_lanes(lines, residue, bytes32, bytes32))
+        return secret_in(lines)
+
+
+def secret_in(lines):
+    """The secret that these lines are."""
+    auction, seat = read_head(lines, b"vickrey-secret")
+    [bid] = lines.next(b"bid", number(0, 2**40 - 1))
+    return Sealed(auction, seat, bid, read_lanes(lines, residue, bytes32, bytes32))
