@@ -97,9 +97,11 @@ def joined(shares):
 
 
 def is_worked_out(top):
-    """Whether the worked values of docs/FORMATS.md are those of the auction that was answered for 01, and of the coin."""
-    with open(os.path.join(DOCS, "FORMATS.md"), encoding="utf-8") as file:
-        page = file.read()
+    """Whether the worked values of docs/FORMATS.md and checks/WORKED.md are those of the auction that was answered for 01, and of the coin."""
+    page = ""
+    for name in ("FORMATS.md", os.path.join("..", "checks", "WORKED.md")):
+        with open(os.path.join(DOCS, name), encoding="utf-8") as file:
+            page += file.read()
     folder = os.path.join(top, "01")
     texts = []
     for name in ("01/day", "01/printed", "01/secret-7", "01/seal-7", "share-1", "coin"):
@@ -454,7 +456,7 @@ def main(words):
             sys.exit(f"{path} differs")
         print(os.path.basename(path))
     if words[1:] and not auction.is_worked_out:
-        sys.exit("the worked values of docs/FORMATS.md differ")
+        sys.exit("the worked values of docs/FORMATS.md or checks/WORKED.md differ")
 
 
 if __name__ == "__main__":

@@ -93,7 +93,7 @@ def by_house(houses):
 
 
 def rows():
-    yield ("Must-fail edits: a change of the code, or of a definition, that the check has to refuse, named for what it breaks",
+    yield ("Must-fail edits: a change of the code, or of a definition, that the check has to refuse",
            by_crate(edits), "`rt must-fail NAME..`")
     yield "Must-fail edits that the gate leaves out, in `checks/edits`", by_crate(edits_outside), "`checks/edits.py NAME..`"
     yield "Tests (`#[test]`)", by_crate(tests), "`rt test` in the crate"
@@ -105,7 +105,7 @@ def rows():
     wholes = (f"{cases('conformance', files='seals and secrets')}, {len(runs)} runs of the program ({by_command(runs)}), "
               f"{by_house(data('conformance', 'houses'))}")
     for program, what in (("vectors", parts), ("conformance", wholes)):
-        yield (f"`{program}`, a program that replays what independent implementations worked out",
+        yield (f"`{program}`, replays what independent implementations worked out",
                f"{what}; {lines(program, 'stdout')} lines", "`rt run` in the crate")
     for program, what, data_of in (("trials", "whole auctions and claims", ""),
                                    ("sample_trials", "samples over files that stay as they are, matchings that are proposed, "
@@ -117,15 +117,15 @@ def rows():
                                    ("program_trials", "the program over a store in real files", trials("program_trials", "steps")),
                                    ("house_trials", "the program over a house, files and errors in memory", trials("house_trials", "steps")),
                                    ("size_trials", "every command at every size", sizes("size_trials"))):
-        yield f"`{program}`, a program that tries {what}", f"{data_of}{lines(program, 'stdout')} lines", "`rt run` in the crate"
+        yield f"`{program}` tries {what}", f"{data_of}{lines(program, 'stdout')} lines", "`rt run` in the crate"
     with open(os.path.join(TOP, "crates", "vickrey", "args"), encoding="utf-8") as file:
         words = " ".join(file.read().split())
     yield f"`vickrey {words}`, the program itself", f"{lines('vickrey', 'stdout')} lines", f"`rt run -- {words}` in the crate"
 
 
 def section():
-    head = ["", "`rt ci` runs all of these but the second, and ends with `N passed, 0 failed`. Of a program each line",
-            "that it prints is compared.", "",
+    head = ["", "`rt ci` runs all of these except the second, and ends with `N passed, 0 failed`. It compares each line",
+            "that a program prints.", "",
             "| Kind | How many | Alone |", "|---|---|---|"]
     return "\n".join(head + [f"| {' | '.join(row)} |" for row in rows()]) + "\n"
 

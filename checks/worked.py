@@ -1,7 +1,7 @@
 #!/usr/bin/env python3
-"""checks/worked.py: that checks/attack/reference.py, which says what the program has to do with
-changed files, makes and says what stands under *Worked values* and elsewhere in docs/FORMATS.md. It
-runs no program."""
+"""checks/worked.py: checks/attack/reference.py, which says what the program has to do with changed
+files, makes and prints what is worked out in docs/FORMATS.md and checks/WORKED.md. It runs no
+program."""
 import hashlib
 import os
 import re
@@ -18,8 +18,12 @@ FIRST, SECOND = ["challenge-0", "reply-0"], ["challenge-1", "reply-1"]
 
 
 def page():
-    with open(os.path.join(HERE, "..", "docs", "FORMATS.md"), encoding="utf-8") as file:
-        return file.read()
+    """The page with the formats, and behind it the one with more worked values."""
+    texts = []
+    for name in ("../docs/FORMATS.md", "WORKED.md"):
+        with open(os.path.join(HERE, name), encoding="utf-8") as file:
+            texts.append(file.read())
+    return "\n".join(texts)
 
 
 def run(files, line):
@@ -118,7 +122,7 @@ def main():
     judged = [*verdicts(), *announcements(text)]
     missing += [f"verdict {number}" for number, is_so in enumerate(judged, 1) if not is_so]
     for name in missing:
-        print(f"docs/FORMATS.md has another one: {name}")
+        print(f"docs/FORMATS.md and checks/WORKED.md have another one: {name}")
     print(f"{len(worked) + len(told) + len(judged)} worked values, {len(missing)} differ")
     return 1 if missing else 0
 
