@@ -5,7 +5,7 @@ import re
 
 from .amounts import NoAmount, Unit
 from .announcement import (
-    Announcement, DEADLINES, kind_of, read_announcement, seat_count, text_of, time_of,
+    Announcement, DEADLINES, kind_of, read_announcement, seat_limits, text_of, time_of,
 )
 from .asking import Unfit, asked, say
 from .fields import lane_count, number, text
@@ -14,8 +14,9 @@ from .sentences import DUTIES, announcement_sentences
 from .words import Usage, parsed
 
 STOPPED = b"announce nothing was written"
+TIMED = [name for name in DEADLINES if name != "parts"]
 OPTIONS = ["kind", "unit", "decimals", "highest", "width", "reserve", "lanes", "auditors",
-           *DEADLINES, "key", "place", "seat"]
+           *TIMED, "key", "place", "seat"]
 TIMES = "as 2026-12-01 12:00 in UTC, or none"
 
 
@@ -80,8 +81,8 @@ class Maker:
         return self.take("reserve", question, read, "none")
 
     def deadlines(self):
-        found, last = {}, ""
-        for name in DEADLINES:
+        found, last = dict.fromkeys(DEADLINES), ""
+        for name in TIMED:
             read = or_none(lambda typed, last=last: no_earlier(read_time(typed), last))
             question = f"By when {DUTIES[name]}, {TIMES}"
             found[name] = self.take(name, question, read, "none")
@@ -157,7 +158,8 @@ def collected(options):
     key = maker.take("key", question, or_none(line), "none")
     place = maker.take("place", "The one place where all that is public is published", line)
     seats = maker.seats(kind, count)
-    if seat_count(kind, count)(b"%d" % len(seats)) is None or len(seats) > 64 and kind == "uniform":
+    least, most = seat_limits(1, kind, count, None)
+    if not least <= len(seats) <= most or len(seats) > 64 and kind == "uniform":
         raise Verdict(8, b"announce seats %d" % len(seats),
                       "1 to 64 seats; as many as units at least, or 2N^2 for N couples")
     auction = os.urandom(16)

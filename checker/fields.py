@@ -5,6 +5,7 @@ from binascii import unhexlify
 
 MODULUS = 2**61 - 1
 LONGEST_TEXT = 200
+TURNING = re.compile("[\u061c\ufeff\u200b-\u200f\u2028-\u202e\u2060-\u2069]")
 
 
 def values_of(kinds, fields):
@@ -64,6 +65,12 @@ def text(field):
     if not said or is_long or said != said.strip(" ") or re.search("[\0-\x1f\x7f-\x9f]", said):
         return None
     return said
+
+
+def visible_text(field):
+    """The same without the characters that turn or hide what stands beside them."""
+    said = text(field)
+    return None if said is None or TURNING.search(said) else said
 
 
 def file_name(word):

@@ -2,6 +2,7 @@
 from collections import namedtuple
 
 from .amounts import Unit
+from .announcement import DEADLINES
 
 PLAIN = Unit(None, 0)  # where no unit is known
 
@@ -58,7 +59,7 @@ RULES = {
 DUTIES = {
     "seals": "every seal is public", "secrets": "every secret is handed in",
     "board": "what the auctioneer proves is public, with its digest",
-    "draw": "the challenge is drawn", "reply": "the reply is public",
+    "parts": "every auditor's part is public", "draw": "the challenge is drawn", "reply": "the reply is public",
 }
 
 
@@ -92,11 +93,13 @@ def draw_of(said):
     return f"{said.auditors} auditors draw the challenge together"
 
 
-def deadline_sentences(deadlines):
-    for name, time in deadlines.items():
-        if time:
-            yield f"By {time_said(time)} {DUTIES[name]}."
-    free = [name for name, time in deadlines.items() if not time]
+def deadline_sentences(said):
+    has_parts = said.version == 2 and said.auditors > 0
+    names = [name for name in DEADLINES if name != "parts" or has_parts]
+    for name in names:
+        if said.deadlines[name]:
+            yield f"By {time_said(said.deadlines[name])} {DUTIES[name]}."
+    free = [name for name in names if not said.deadlines[name]]
     if free:
         yield f"No deadline is set for {listed(free)}."
 
@@ -108,7 +111,7 @@ def announcement_sentences(said, digest):
     yield bids_of(said)
     lanes = "1 lane" if said.lanes == 1 else f"{said.lanes} lanes"
     yield f"{draw_of(said)}: one bit for each of {lanes}."
-    yield from deadline_sentences(said.deadlines)
+    yield from deadline_sentences(said)
     if said.key:
         yield f"Secrets are encrypted to the key {said.key}."
     else:

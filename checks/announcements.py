@@ -1,9 +1,10 @@
 #!/usr/bin/env python3
-"""checks/announcements.py FOLDER: reads each announcement of a folder with checker/ and with
-checks/attack/announced.py, and compares both with its `table`, a line for each file: its name, and
-0 or the number of its fault line. With --changed both read changed announcements that it makes.
+"""checks/announcements.py FOLDER ..: reads each announcement of these folders with checker/ and
+with checks/attack/announced.py, and compares both with the folder's `table`, a line for each file:
+its name, and 0 or the number of its fault line. With --changed both read changed announcements of
+both versions that it makes.
 
-    checks/announcements.py FOLDER
+    checks/announcements.py FOLDER ..
     checks/announcements.py --changed COUNT [SEED]
 """
 import os
@@ -19,11 +20,12 @@ def read(path):
         return file.read()
 
 
-def rows_of(folder):
-    """What the table of a folder says: of each file its fault line."""
-    for line in read(os.path.join(folder, "table")).decode().splitlines():
-        name, fault = line.split(" ")
-        yield os.path.join(folder, name), int(fault)
+def rows_of(folders):
+    """What the tables of folders say: of each file its fault line."""
+    for folder in folders:
+        for line in read(os.path.join(folder, "table")).decode().splitlines():
+            name, fault = line.split(" ")
+            yield os.path.join(folder, name), int(fault)
 
 
 def changed_rows(count, seed, folder):
@@ -48,8 +50,8 @@ def differing(rows):
 
 
 def main(words):
-    if len(words) == 1 and os.path.isdir(words[0]):
-        count, faults, found = differing(rows_of(words[0]))
+    if words and all(map(os.path.isdir, words)):
+        count, faults, found = differing(rows_of(words))
     elif len(words) in (2, 3) and words[0] == "--changed" and words[1].isdigit():
         with tempfile.TemporaryDirectory() as folder:
             seed = words[2] if len(words) == 3 else "1"

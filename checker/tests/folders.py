@@ -8,7 +8,7 @@ import tempfile
 import unittest
 from unittest import mock
 
-from ..announcement import Announcement
+from ..announcement import DEADLINES, Announcement
 from ..amounts import Unit
 
 DATA = os.path.join(os.path.dirname(__file__), "..", "..", "crates", "vickrey", "data")
@@ -57,7 +57,6 @@ class InFolder(unittest.TestCase):
 
 def announced(**changes):
     """The announcement of the smallest board, with changes."""
-    deadlines = {name: None for name in ("seals", "secrets", "board", "draw", "reply")}
-    least = Announcement(AUCTION, "vickrey", None, 1, 1, None, Unit("EUR", 2), 0, deadlines, None,
-                         "the notice board", {7: "Ann"})
+    least = Announcement(AUCTION, "vickrey", None, 1, 1, None, Unit("EUR", 2), 0,
+                         dict.fromkeys(DEADLINES), None, "the notice board", {7: "Ann"})
     return least._replace(**changes)

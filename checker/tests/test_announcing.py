@@ -47,7 +47,8 @@ class Announcing(InFolder):
                          ("vickrey", None, 20, 40, 5000, 3))
         self.assertEqual(said.deadlines, {"seals": "2026-12-01T12:00:00Z",
                                           "secrets": "2026-12-02T12:00:30Z", "board": None,
-                                          "draw": None, "reply": "2026-12-05T08:00:00Z"})
+                                          "parts": None, "draw": None,
+                                          "reply": "2026-12-05T08:00:00Z"})
         self.assertEqual((said.key, said.place, said.seats), (None, "here", {7: "Ann", 9: "Bo"}))
         self.assertEqual(stat.S_IMODE(os.stat("new").st_mode), 0o600)
 

@@ -13,7 +13,10 @@ NUMBER = rb"(0|[1-9][0-9]{0,19})"
 TEXT = rb"([^\n]{1,200})"
 TIME = rb"(none|(\d{4})-(\d\d)-(\d\d)T([01]\d|2[0-3]):[0-5]\d:[0-5]\dZ)"
 CONTROLS = {*range(0x20), *range(0x7F, 0xA0)}
-DEADLINES = [b"seals", b"secrets", b"board", b"draw", b"reply"]
+# Characters that turn or hide others, which no text of version 2 has
+HIDING = {0x61C, 0xFEFF, *range(0x200B, 0x2010), *range(0x2028, 0x202F), *range(0x2060, 0x206A)}
+DEADLINES = {1: [b"seals", b"secrets", b"board", b"draw", b"reply"],
+             2: [b"seals", b"secrets", b"board", b"parts", b"draw", b"reply"]}
 
 
 class Fault(Exception):
@@ -25,14 +28,14 @@ def demand(holds):
         raise Fault
 
 
-def is_text(said):
-    """1 to 200 bytes without controls, and without a space at an end."""
+def is_text(said, barred):
+    """1 to 200 bytes without barred characters, and without a space at an end."""
     try:
         characters = said.decode("utf-8")
     except UnicodeDecodeError:
         return False
     ends = characters[:1] + characters[-1:]
-    return not CONTROLS & set(map(ord, characters)) and " " not in ends and 1 <= len(said) <= 200
+    return not barred & set(map(ord, characters)) and " " not in ends and 1 <= len(said) <= 200
 
 
 def is_day(year, month, day):
@@ -47,8 +50,8 @@ class Reader:
 
     def __init__(self, data):
         self.data, self.at, self.number = data, 0, 0
-        self.width = self.last_seat = self.count = 0
-        self.kind, self.last_time = b"", b""
+        self.version = self.width = self.last_seat = self.count = self.auditors = 0
+        self.kind, self.last_time, self.reserve, self.barred = b"", b"", b"", CONTROLS
 
     def line(self, form):
         self.number += 1
@@ -66,48 +69,79 @@ class Reader:
 
     def text(self, word):
         (said,) = self.line(word + b" " + TEXT)
-        demand(is_text(said))
+        demand(is_text(said, self.barred))
+
+    def texts(self, word, count):
+        """Lines numbered from 1."""
+        for at in range(1, count + 1):
+            self.text(word + b" %d" % at)
+
+    def title(self):
+        (version,) = self.line(rb"vickrey-announcement ([12])")
+        self.version = int(version)
+        self.line(rb"auction [0-9a-f]{32}")
+        if self.version == 2:
+            self.barred = CONTROLS | HIDING
+            self.text(b"sale")
 
     def head(self):
-        self.line(rb"vickrey-announcement 1")
-        self.line(rb"auction [0-9a-f]{32}")
         kind, uniform, matching = self.line(
             rb"kind (vickrey|uniform ([1-9]\d?)|matching ([1-9]\d?))")
         self.kind, self.count = kind.split(b" ")[0], int(uniform or matching or 0)
         demand(self.count <= {b"vickrey": 0, b"uniform": 64, b"matching": 16}[self.kind])
         self.width = self.whole(b"width", 1, 16 if self.kind == b"matching" else 40)
         self.whole(b"lanes", 1, 64)
-        (reserve,) = self.line(rb"reserve (none|0|[1-9][0-9]{0,19})")
-        is_free = reserve == b"none"
-        demand(is_free or self.kind == b"vickrey" and int(reserve) < 2**self.width)
+        (self.reserve,) = self.line(rb"reserve (none|0|[1-9][0-9]{0,19})")
+        reserved = [[], [b"vickrey"], [b"vickrey", b"uniform"]][self.version]
+        demand(self.reserve == b"none"
+               or self.kind in reserved and int(self.reserve) < 2**self.width)
 
     def terms(self):
         self.text(b"unit")
         self.whole(b"decimals", 0, 9)
-        self.whole(b"auditors", 0, 16)
-        for word in DEADLINES:
-            time, *day = self.line(word + b" " + TIME)[:4]
-            if time != b"none":
-                demand(is_day(*map(int, day)) and time >= self.last_time)
-                self.last_time = time
+        self.auditors = self.whole(b"auditors", 0, 16)
+        if self.version == 2:
+            self.texts(b"auditor", self.auditors)
+        for word in DEADLINES[self.version]:
+            self.time(word)
         self.text(b"key")
         self.text(b"place")
 
-    def seats(self):
-        least, most = 1, 64
-        if self.kind == b"uniform":
-            least, most = self.count, 512
-        elif self.kind == b"matching":
-            least = most = 2 * self.count**2
-        for _ in range(self.whole(b"seats", least, most)):
+    def time(self, word):
+        time, *day = self.line(word + b" " + TIME)[:4]
+        if time != b"none":
+            demand(word != b"parts" or self.auditors > 0)
+            demand(is_day(*map(int, day)) and time >= self.last_time)
+            self.last_time = time
+
+    def seat_limits(self):
+        if self.kind == b"matching":
+            return 2 * self.count**2, 2 * self.count**2
+        if self.kind == b"vickrey":
+            return 1, 64
+        if self.version == 1:
+            return self.count, 512
+        return 1 if self.reserve == b"none" else self.count + 2, 64
+
+    def people(self):
+        count = self.whole(b"seats", *self.seat_limits())
+        if self.version == 2 and self.kind == b"matching":
+            self.texts(b"first", self.count)
+            self.texts(b"second", self.count)
+        else:
+            self.seats(count)
+
+    def seats(self, count):
+        for _ in range(count):
             seat, name = self.line(rb"seat " + NUMBER + b" " + TEXT)
-            demand(self.last_seat < int(seat) <= 65535 and is_text(name))
+            demand(self.last_seat < int(seat) <= 65535 and is_text(name, self.barred))
             self.last_seat = int(seat)
 
     def whole_file(self):
+        self.title()
         self.head()
         self.terms()
-        self.seats()
+        self.people()
         self.line(rb"end")
         self.number += 1
         demand(self.at == len(self.data))
@@ -131,31 +165,59 @@ TIMES = ["none", "2024-02-29T23:59:59Z", "2026-12-01T12:00:00Z", "2026-12-01T12:
          "2027-01-01T00:00:00Z", "9999-12-31T00:00:00Z"]
 
 
-def some_seats(draw, kind, count):
-    """Numbers of seats, ascending."""
-    size = 2 * count**2 if kind == "matching" else max(count, draw.choice([1, 2, 3, 12, 64]))
-    return sorted(draw.sample(range(1, 65536), size))
+def some_seats(draw, size):
+    """Seats of ascending numbers."""
+    seats = sorted(draw.sample(range(1, 65536), size))
+    return [f"seats {size}", *(f"seat {seat} {draw.choice(SAID)}" for seat in seats)]
 
 
-def right_announcement(draw):
-    """An announcement with values near their limits."""
+def some_names(draw, word, count):
+    return [f"{word} {at} {draw.choice(SAID)}" for at in range(1, count + 1)]
+
+
+def some_people(draw, version, kind, count, reserve):
+    """The lines of the seats, or of both sides of a matching."""
+    if kind == "matching" and version == 2:
+        sides = some_names(draw, "first", count) + some_names(draw, "second", count)
+        return [f"seats {2 * count**2}", *sides]
+    if kind == "matching":
+        return some_seats(draw, 2 * count**2)
+    least = count + 2 if reserve != "none" and kind == "uniform" else count if version == 1 else 1
+    return some_seats(draw, max(least, draw.choice([1, 2, 3, 12, 64])))
+
+
+def some_kind(draw):
+    """A kind, and how many units or couples it has."""
     kind = draw.choice(["vickrey", "vickrey", "uniform", "matching"])
-    count = {"vickrey": 0, "uniform": draw.choice([1, 2, 12, 64]),
-             "matching": draw.choice([1, 2, 3])}[kind]
+    return kind, {"vickrey": 0, "uniform": draw.choice([1, 2, 12, 62]),
+                  "matching": draw.choice([1, 2, 3])}[kind]
+
+
+def some_deadlines(draw, version, auditors):
+    words = DEADLINES[version]
+    for word, time in zip(words, sorted(draw.choices(TIMES[1:], k=len(words)))):
+        may_be = word != b"parts" or auditors > 0
+        yield f"{word.decode()} {draw.choice(['none', time]) if may_be else 'none'}"
+
+
+def right_announcement(draw, versions=(1, 2)):
+    """An announcement of one of the versions, with values near their limits."""
+    version, (kind, count) = draw.choice(versions), some_kind(draw)
     width = draw.choice([1, 2, 15, 16] if kind == "matching" else [1, 2, 16, 39, 40])
-    reserves = ["none", 0, 2**width - 1] if kind == "vickrey" else ["none"]
-    times = sorted(draw.choices(TIMES[1:], k=5))
-    seats = some_seats(draw, kind, count)
-    lines = ["vickrey-announcement 1", f"auction {draw.getrandbits(128):032x}",
+    has_reserve = kind == "vickrey" or kind == "uniform" and version == 2
+    reserve = draw.choice(["none", 0, 2**width - 1] if has_reserve else ["none"])
+    auditors = draw.choice([0, 1, 3, 16])
+    lines = [f"vickrey-announcement {version}", f"auction {draw.getrandbits(128):032x}",
+             *([f"sale {draw.choice(SAID)}"] if version == 2 else []),
              f"kind {kind} {count}" if count else f"kind {kind}", f"width {width}",
-             f"lanes {draw.choice([1, 40, 64])}", f"reserve {draw.choice(reserves)}",
+             f"lanes {draw.choice([1, 40, 64])}", f"reserve {reserve}",
              f"unit {draw.choice(SAID)}", f"decimals {draw.choice([0, 2, 9])}",
-             f"auditors {draw.choice([0, 1, 3, 16])}"]
-    lines += [f"{word.decode()} {draw.choice(['none', time])}"
-              for word, time in zip(DEADLINES, times)]
-    lines += [f"key {draw.choice(SAID)}", f"place {draw.choice(SAID)}", f"seats {len(seats)}"]
-    lines += [f"seat {seat} {draw.choice(SAID)}" for seat in seats]
-    return "".join(f"{line}\n" for line in [*lines, "end"]).encode()
+             f"auditors {auditors}",
+             *(some_names(draw, "auditor", auditors) if version == 2 else []),
+             *some_deadlines(draw, version, auditors),
+             f"key {draw.choice(SAID)}", f"place {draw.choice(SAID)}",
+             *some_people(draw, version, kind, count, reserve), "end"]
+    return "".join(f"{line}\n" for line in lines).encode()
 
 
 # ------------------------------------------------------------------------------------------------
@@ -175,13 +237,16 @@ def other_time(draw, data, _):
 
 def other_text(draw, data, _):
     """Another character in a text, near those that may not stand there."""
-    found = list(re.finditer(rb"^(?:unit|key|place|seat \d+) ", data, re.MULTILINE))
+    found = list(re.finditer(rb"^(?:sale|unit|key|place|(?:auditor|seat|first|second) \d+) ", data,
+                             re.MULTILINE))
     if not found:
         return data
     at = draw.choice(found).end()
     end = (data.find(b"\n", at) + 1 or len(data) + 1) - 1
     place = draw.choice([at, end, draw.randint(at, max(at, end))])
-    some = draw.choice(["\x1f", " ", "\x7e", "\x7f", "\x80", "\x9f", "\xa0", "\u2028", "\ufeff",
+    some = draw.choice(["\x1f", " ", "\x7e", "\x7f", "\x80", "\x9f", "\xa0", "\u061b", "\u061c",
+                        "\u200a", "\u200b", "\u200f", "\u2010", "\u2027", "\u2028", "\u202e",
+                        "\u202f", "\u205f", "\u2060", "\u2069", "\u206a", "\ufeff", "\ufefe",
                         "\U0010ffff", "y" * 56, "y" * 200])
     some = draw.choice([some.encode(), b"\xff", b"\xc0\xa0", b"\xed\xa0\x80"])
     return data[:place] + some + data[place:]
@@ -223,12 +288,12 @@ def checked_line(path):
     return 0 if is_same else "written otherwise"
 
 
-def changed_announcement(draw):
+def changed_announcement(draw, versions=(1, 2)):
     """An announcement that is changed in no place, or in one to three."""
     from attack.mutations import CHANGES
 
-    data = right_announcement(draw)
-    others = [right_announcement(draw)]
+    data = right_announcement(draw, versions)
+    others = [right_announcement(draw, versions)]
     for _ in range(draw.choice([0, 1, 1, 1, 2, 3])):
         change = draw.choice([other_time, other_text, draw.choice(CHANGES), draw.choice(CHANGES)])
         data = change(draw, data, others)
