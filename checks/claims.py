@@ -1,9 +1,9 @@
 #!/usr/bin/env python3
-"""checks/claims.py [--write]: what docs/PROVED.md names exists, each crate has its row there, and crates/CLAUSES.md is up to date.
+"""checks/claims.py [--write]: what docs/PROVED.md names exists, each crate has its row there, and reference/CLAUSES.md is up to date.
 
 A row's last cell has calls, each followed by the clauses that carry its claim in brackets. A clause belongs to the calls
 before it, back to the last brackets: it has to stand in the contract of one of them, and each of them has to be there.
-`CLAUSE.FIELD` is a fact of a clause that is a record: it has to be a field of that. --write writes crates/CLAUSES.md: each public
+`CLAUSE.FIELD` is a fact of a clause that is a record: it has to be a field of that. --write writes reference/CLAUSES.md: each public
 call that has a contract, with the comment over it and the names of its clauses.
 """
 import os
@@ -12,7 +12,7 @@ import sys
 
 TOP = os.path.join(os.path.dirname(os.path.abspath(__file__)), "..")
 PAGE = os.path.join(TOP, "docs", "PROVED.md")
-INDEX = os.path.join(TOP, "crates", "CLAUSES.md")
+INDEX = os.path.join(TOP, "reference", "CLAUSES.md")
 HEAD = "| Crate | Claim | Call and clauses |"
 ITEM = re.compile(r"\b(fn|struct|enum|trait|type)\s+(\w+)")
 IMPL = re.compile(r"^\s*impl\b(?:<[^{]*?>)?\s+(?:(\w+)(?:<[^{]*>)?\s+for\s+)?&?(\w+)(?:<[^{]*>)?\s*\{", re.MULTILINE)
@@ -154,7 +154,7 @@ def public_calls(text):
 
 
 def index():
-    """The whole of crates/CLAUSES.md."""
+    """The whole of reference/CLAUSES.md."""
     lines = [BEGINNING]
     for crate in crates_by_group()[0]:
         lines.append(f"## {crate}\n")
@@ -175,7 +175,7 @@ def unnamed_crates(text):
 
 
 def index_fault(write):
-    """That crates/CLAUSES.md is out of date, unless it is written now."""
+    """That reference/CLAUSES.md is out of date, unless it is written now."""
     made = index()
     if write:
         with open(INDEX, "w", encoding="utf-8") as file:
@@ -185,7 +185,7 @@ def index_fault(write):
         with open(INDEX, encoding="utf-8") as file:
             if file.read() == made:
                 return []
-    return ["crates/CLAUSES.md is out of date: checks/claims.py --write writes it"]
+    return ["reference/CLAUSES.md is out of date: checks/claims.py --write writes it"]
 
 
 def main(words):

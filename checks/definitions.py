@@ -1,5 +1,5 @@
 #!/usr/bin/env python3
-"""checks/definitions.py [--write]: writes crates/DEFINITIONS.md, every public definition of specs/ with the comment over it, or says
+"""checks/definitions.py [--write]: writes reference/DEFINITIONS.md, every public definition of specs/ with the comment over it, or says
 if that file is out of date.
 
 The tables of docs/DEFINITIONS.md say more of some definitions: each of these has to be in the file that its row names, and is named
@@ -13,7 +13,7 @@ from headline import CRATES, KEYWORD, START, lines_of, read
 
 TOP = os.path.join(os.path.dirname(os.path.abspath(__file__)), "..")
 PAGE = os.path.join(TOP, "docs", "DEFINITIONS.md")
-INDEX = os.path.join(CRATES, "DEFINITIONS.md")
+INDEX = os.path.join(TOP, "reference", "DEFINITIONS.md")
 PUBLIC = re.compile(rf"{KEYWORD}*pub (?:{KEYWORD})*(?!use |mod )")
 HEAD = """# Every definition, file by file
 
@@ -78,7 +78,7 @@ def found_in_crates():
 
 
 def index(found):
-    """The whole of crates/DEFINITIONS.md."""
+    """The whole of reference/DEFINITIONS.md."""
     lines, last = [HEAD], None
     for place, entries in found.items():
         crate = place.split("/")[0]
@@ -127,6 +127,19 @@ def faults_of(text, found):
         yield "docs/DEFINITIONS.md has no table of definitions"
 
 
+def index_fault(made, write):
+    """That the index is out of date, unless it is written now."""
+    if write:
+        with open(INDEX, "w", encoding="utf-8") as file:
+            file.write(made)
+        return []
+    if os.path.exists(INDEX):
+        with open(INDEX, encoding="utf-8") as file:
+            if file.read() == made:
+                return []
+    return ["reference/DEFINITIONS.md is out of date: checks/definitions.py --write writes it"]
+
+
 def main(words):
     if words not in ([], ["--write"]):
         print(__doc__)
@@ -134,12 +147,7 @@ def main(words):
     found = found_in_crates()
     with open(PAGE, encoding="utf-8") as file:
         faults = list(faults_of(file.read(), found))
-    made = index(found)
-    if words:
-        with open(INDEX, "w", encoding="utf-8") as file:
-            file.write(made)
-    elif not os.path.exists(INDEX) or read("DEFINITIONS.md") != made:
-        faults.append("crates/DEFINITIONS.md is out of date: checks/definitions.py --write writes it")
+    faults += index_fault(index(found), bool(words))
     count = sum(len(names) for entries in found.values() for names, _ in entries)
     print("\n".join([*faults, f"{count} definitions in {len(found)} files, {len(faults)} faults"]))
     return 1 if faults else 0
