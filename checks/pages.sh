@@ -1,5 +1,5 @@
 #!/usr/bin/env bash
-# checks/pages.sh PROGRAM: runs the commands of README.md, of AUCTION.md, CLAIMS.md, MANY.md, MATCHING.md and METHOD.md in docs, and of the manual page
+# checks/pages.sh PROGRAM: runs the commands of README.md, of AUCTION.md, CLAIMS.md, MANY.md and METHOD.md in docs, and of the manual page
 # exactly as they are written, each page in a new copy of this folder, with nothing on PATH but the system. Only `rt` is stood in for: `rt run` and
 # `rt try` run the program, and `rt ci` does nothing. It is no part of the gate, and wants sqlite3. The last line says how many passed and failed.
 set -u
@@ -83,10 +83,8 @@ page docs/AUCTION.md "$system" 'joined auditors 3 bits 40' 'Seat 7 wins and pays
   < <(blocks docs/AUCTION.md)
 begin CLAIMS
 page docs/CLAIMS.md "$system" 'claim-sample uniform 1' 'inputs 10 lanes 8 wires 747 rows 56' accepted 'refused claim-reply-1 lane 2 row 41' \
-  'refused turned public' < <(blocks docs/CLAIMS.md)
-begin MATCHING
-page docs/MATCHING.md "$system" 'claim-sample matching 2' 'inputs 32 lanes 8 wires 548 rows 88' accepted 'refused claim-reply-1 lane 1 row 64' \
-  'refused doubled public' < <(blocks docs/MATCHING.md)
+  'refused turned public' 'claim-sample matching 2' 'inputs 32 lanes 8 wires 548 rows 88' 'refused claim-reply-1 lane 1 row 64' \
+  'refused doubled public' < <(blocks docs/CLAIMS.md)
 begin MANY
 page docs/MANY.md "$system" '     20 accepted' '     20 width 16 lanes 40 seals 3 phase answered' 20 < <(blocks docs/MANY.md)
 begin METHOD
