@@ -7,20 +7,17 @@ writes FOLDER/board, challenge-1, reply-1, challenge-2 and reply-2. The same wor
 is of version 2, of the same bids. It is a number, or one of the words `above`, `at` and `unsold`: then a reserve is drawn with
 which the bids are sold above it, sold at it, or not sold. With `units:UNITS` it writes FOLDER/claim in place of the board: a
 claim file of so many equal units that are sold to the same bids at one price. With `matching` it writes a claim file of a stable
-matching of SEALS men and as many women, who rank each other at random, below 2^WIDTH. It is written from docs/FORMATS.md alone,
-and shares nothing with the program: what it makes is what is to be accepted.
+matching of SEALS men and as many women, who rank each other at random, below 2^WIDTH. It stands on checker/, which is written from
+docs/FORMATS.md alone, and shares nothing with the program: what it makes is what is to be accepted.
 """
-import hashlib
 import os
 import random
 import sys
 
-M = 2**61 - 1
-
-
-def digest(auction, seat, lane, slot, key, value):
-    place = seat.to_bytes(2, "big") + lane.to_bytes(2, "big") + slot.to_bytes(4, "big")
-    return hashlib.sha256(b"VKC1" + auction + place + key + value.to_bytes(8, "big")).hexdigest()
+sys.path.insert(0, os.path.join(os.path.dirname(os.path.abspath(__file__)), ".."))
+from checker import circuits  # noqa: E402
+from checker.commitments import digest  # noqa: E402
+from checker.fields import MODULUS as M  # noqa: E402
 
 
 def best_two(bids):
@@ -75,100 +72,61 @@ def matching(size, ranks):
     return [woman for man in range(size) for woman in kept if kept[woman] == man]
 
 
-class Circuit:
-    """The wires, each a weight or None for a split one; the rows, each a form of (factor, wire) and a constant. It begins with
-    the copies of the bids, or of what else is sealed, which are in range."""
+class Filled:
+    """A circuit with the values of its wires: the inputs twice, and of the others those by which each row holds."""
 
-    def __init__(self, bids, width):
-        self.bids, self.width = bids, width
-        self.kinds = [None] * (2 * len(bids))
-        self.values = bids + bids
-        self.rows = [([(1, j), (-1, self.copy(j))], 0) for j in range(len(bids))]
-        for j in range(len(bids)):
-            self.in_range([(1, self.copy(j))], 0)
+    def __init__(self, circuit, inputs, winners=(), price=None):
+        self.kinds, self.rows, self.price, self.inputs = circuit.wires, circuit.rows, price, inputs
+        self.losers = [j for j in range(len(inputs)) if j not in winners]
+        self.values = [*inputs, *inputs] + [None] * (len(self.kinds) - 2 * len(inputs))
+        for row in self.rows:
+            self.fill(*row)
 
-    def copy(self, j):
-        return len(self.bids) + j
+    def open_wires(self, form):
+        """The wires of a form whose values aren't known yet: selectors, and the pairs of a test set, which are taken away."""
+        unknown = [(factor, wire) for factor, wire in form if self.values[wire] is None]
+        pairs = [wire for factor, wire in unknown if factor == -1]
+        return [(factor, wire) for factor, wire in unknown if factor != -1], pairs
 
-    def value(self, form, constant):
-        return sum(factor * self.values[wire] for factor, wire in form) + constant
+    def known(self, form):
+        """What a form comes to by the wires whose values are known."""
+        return sum(factor * self.values[wire] for factor, wire in form if self.values[wire] is not None)
 
-    def in_range(self, form, constant, width=None):
-        """A test set that comes to the form, and the row that says so."""
-        number, width = self.value(form, constant), width or self.width
-        assert 0 <= number < 2**width
-        self.rows.append((form + [(-1, self.pair(2**i, number & 2**i)) for i in range(width)], constant))
+    def fill(self, form, constant):
+        selectors, pairs = self.open_wires(form)
+        if selectors and pairs:  # of two places: 1 where the first difference is no less than 0
+            [(factor, selector)] = selectors
+            self.values[selector] = 1 if self.known(form) >= 0 else 0
+        elif selectors:
+            self.choose([wire for _, wire in selectors])
+        number = self.known(form) + constant
+        assert 0 <= number < 2 ** len(pairs) if pairs else number == 0
+        for i, wire in enumerate(pairs):
+            self.values[wire] = number & 2**i
 
-    def pair(self, weight, value):
-        self.kinds.append(weight)
-        self.values.append(value)
-        return len(self.kinds) - 1
-
-    def unsold(self, reserve):
-        for j in range(len(self.bids)):
-            self.in_range([(-1, self.copy(j))], reserve - 1)
-
-    def sold(self, winners, price):
-        """That the winners bid most, and the others no more than the price. The others' places."""
-        others = [j for j in range(len(self.bids)) if j not in winners]
-        for winner in winners:
-            for j in others:
-                self.in_range([(1, self.copy(winner)), (-1, self.copy(j))], -1 if j < winner else 0)
-        for j in others:
-            self.in_range([(-1, self.copy(j))], price)
-        return others
-
-    def select(self, others, price):
-        """The selectors, of which the first other bid at the price has 1, and their rows; none without others."""
-        if not others:
-            return
-        chosen = next(j for j in others if self.bids[j] == price)
-        selectors = {j: self.pair(1, 1 if j == chosen else 0) for j in others}
-        self.rows.append(([(1, selectors[j]) for j in others], -1))
-        most = 2**self.width - 1
-        for j in others:
-            self.in_range([(-most, selectors[j]), (1, self.copy(j))], most - price)
-
-    def either_at_least(self, first, second):
-        """That of two places in the first the left is at least the right, or in the second: the selector is 1 in the first case."""
-        difference = lambda left, right: [(1, self.copy(left)), (-1, self.copy(right))]
-        selector, most = self.pair(1, 1 if self.value(difference(*first), 0) >= 0 else 0), 2**self.width
-        self.in_range(difference(*first) + [(-most, selector)], most, self.width + 1)
-        self.in_range(difference(*second) + [(most, selector)], 0, self.width + 1)
+    def choose(self, selectors):
+        """Of the inputs that lost, each of which has a selector, that of the first at the price is 1."""
+        chosen = next(at for at, j in enumerate(self.losers) if self.inputs[j] == self.price)
+        for at, wire in enumerate(selectors):
+            self.values[wire] = 1 if at == chosen else 0
 
 
 def board_circuit(bids, width, reserve=None):
-    """The circuit of a board. There is a reserve in version 2."""
-    circuit = Circuit(bids, width)
+    """The circuit of a board with its values. There is a reserve in version 2."""
     winner, price = outcome(bids, reserve)
-    if winner is None:
-        circuit.unsold(reserve)
-        return circuit
-    others = circuit.sold([winner], price)
-    if price == reserve:
-        circuit.in_range([(1, circuit.copy(winner))], -reserve)
-    else:
-        circuit.select(others, price)
-    return circuit
+    return Filled(circuits.board_circuit(len(bids), width, reserve, winner, price), bids, [winner], price)
 
 
 def claim_circuit(bids, width, units):
-    """The circuit of so many equal units."""
-    circuit = Circuit(bids, width)
+    """The circuit of so many equal units, with its values."""
     winners, price = uniform(bids, units)
-    circuit.select(circuit.sold(winners, price), price)
-    return circuit
+    circuit = circuits.uniform_circuit(len(bids), [width, price, *(winner + 1 for winner in winners)])
+    return Filled(circuit, bids, winners, price)
 
 
-def matching_circuit(size, ranks, width, women):
-    """The circuit of a matching, by each man's woman: no other two rank each other better."""
-    circuit = Circuit(ranks, width)
-    for man in range(size):
-        for woman in range(size):
-            if woman != women[man]:
-                (his, hers), his_own = places(size, man, woman), places(size, man, women[man])[0]
-                circuit.either_at_least((his, his_own), (hers, places(size, women.index(woman), woman)[1]))
-    return circuit
+def matching_circuit(ranks, width, women):
+    """The circuit of a matching, by each man's woman, with its values."""
+    return Filled(circuits.matching_circuit(len(ranks), [width, *(woman + 1 for woman in women)]), ranks)
 
 
 class Wire:
@@ -187,7 +145,7 @@ class Wire:
         self.entries = [(draw.getrandbits(256).to_bytes(32, "big"), entry) for entry in entries]
 
     def digests(self, auction, seat, lane, slot):
-        return " ".join(digest(auction, seat, lane, slot + i, *self.entries[i]) for i in range(2))
+        return " ".join(digest(auction, seat, lane, slot + i, *self.entries[i]).hex() for i in range(2))
 
     def shown(self, bit):
         texts = [f"{key.hex()} {value}" for key, value in self.entries]
@@ -249,7 +207,7 @@ def main(seals, width, lanes, number, folder, word=None):
     seats = draw.sample(range(1, 65536), seals)
     if word == "matching":
         women = matching(size, bids)
-        name, circuit = "claim", matching_circuit(size, bids, width, women)
+        name, circuit = "claim", matching_circuit(bids, width, women)
         head = claim_lines(auction, "matching", lanes, seats, [width, *(woman + 1 for woman in women)])
     elif word and word.startswith("units:"):
         units = int(word[len("units:") :])

@@ -71,6 +71,7 @@ def scripts():
     data = os.path.join(TOP, "crates", "vickrey", "data")
     found = [os.path.join(HERE, "attack", f"{part}.py") for part in parts]
     found += [os.path.join(data, name) for name in sorted(os.listdir(data))]
+    found += [os.path.join(TOP, "checker", f"{part}.py") for part in ("circuits", "commitments", "fields")]
     return [*found, os.path.join(TOP, "bench", "make_board.py")]
 
 
