@@ -14,7 +14,10 @@ is proved. Its modules:
     announcing, bidding   a new announcement; a bid at a seat of one
     asking, progress      what people are asked; how far long work is
     reporting, sentences  what files say, for people
-    heads, audit          the audit of an auction; auditing has its words
+    readings, kinds       files that are opened once; what a file is
+    gathering, heads      the files of an audit; what their first lines say
+    audit, auditing       the audit of an auction; its words
+    shown, strength       text of others, and how strong a proof is, for people
     intake                how an auctioneer takes seals and secrets
     commands, words       what each command is called, and which words it has
 """

@@ -4,10 +4,13 @@ import re
 import shutil
 
 from .amounts import Unit
-from .announcement import Announcement, read_announcement
+from .announcement import Announcement
 from .asking import say
-from .audit import Audit, Written, parts_of
+from .audit import Audit, Written
+from .gathering import Folder, not_judged, read_announced, read_own_secret, read_parts
+from .readings import Readings
 from .sentences import listed
+from .shown import shown
 from .words import Usage, parsed
 
 
@@ -23,13 +26,6 @@ def program_of(word):
     if found is None:
         raise Usage(f"no program '{word}'")
     return os.path.abspath(found)
-
-
-def given_parts(name):
-    parts = parts_of(os.fsencode(name))
-    if parts is None:
-        raise Usage("PARTS is no file of parts, one line `part AUDITOR DIGEST` each")
-    return parts
 
 
 def seats_of(word):
@@ -50,10 +46,6 @@ def reserve_of(word):
     return int(of_form("RESERVE", "0|[1-9][0-9]{0,12}", word))
 
 
-def secret_of(name):
-    return name, os.path.abspath(name)
-
-
 def left_out_of(said, options):
     """The seats that were left out in public, which the announcement has."""
     seats = last_of(options, "left-out", seats_of) or []
@@ -70,13 +62,32 @@ def last_of(options, name, read):
     return read(options[name][-1]) if name in options else None
 
 
-def audited(announced, written, folder):
-    """Runs the audit in its folder; the status."""
+def entered(folder):
+    """Goes into the folder that has the public files: another folder that takes its name later is
+    another one."""
     try:
         os.chdir(folder)
-    except OSError:
-        raise Usage(f"no folder '{folder}'") from None
-    return 0 if Audit(announced, written, say).run() else 1
+    except OSError as fault:
+        raise Usage(f"no folder '{folder}' can be read: {fault.strerror}") from None
+
+
+def tell_alarms(folder):
+    for name, what in folder.never_public():
+        say(f"ALARM   {shown(name)} is {what}: if others can read this folder, tell whose it is at "
+            "once")
+
+
+def audited(announced, written, readings, has_coin):
+    """Audits the auction whose public files lie in the current folder; the status. The readings are
+    of what was given beside it."""
+    seats = [seat for seat in announced.seats if seat not in written.left_out]
+    folder = Folder(announced, seats, has_coin, Readings())
+    folder.look_at_others({own.identity for own in written.secrets if own})
+    tell_alarms(folder)
+    faults = readings.faults + folder.readings.faults
+    if faults:
+        return not_judged(faults)
+    return 0 if Audit(announced, written, folder, say).run() else 1
 
 
 OPTIONS = ["secret", "parts", "program", "bits", "left-out"]
@@ -85,32 +96,36 @@ OPTIONS = ["secret", "parts", "program", "bits", "left-out"]
 def audit(words):
     """`audit ANNOUNCEMENT DIGEST FOLDER`"""
     (announcement, digest, folder), options = parsed(words, 3, 3, OPTIONS)
-    announced = read_announcement(os.fsencode(announcement))
-    if announced.kind == "matching" and "secret" in options:
-        raise Usage("a matching has no price that a rank could be compared with")
+    readings, digest = Readings(), digest_of(digest)
+    bits, program = last_of(options, "bits", bits_of), last_of(options, "program", program_of)
+    announced = read_announced(readings, announcement)
+    if announced is None:
+        return not_judged(readings.faults)
     if announced.auditors and "parts" not in options:
         raise Usage(f"the announcement has {announced.auditors} auditors: give their parts, as you "
                     "wrote them down before the first share was shown (--parts FILE)")
     written = Written(
-        digest_of(digest), last_of(options, "bits", bits_of),
-        last_of(options, "parts", given_parts), last_of(options, "secret", secret_of),
-        last_of(options, "program", program_of), left_out_of(announced, options))
-    return audited(announced, written, folder)
+        digest, bits, last_of(options, "parts", lambda name: read_parts(readings, name)),
+        [read_own_secret(readings, name, announced.auction) for name in options.get("secret", [])],
+        program, left_out_of(announced, options))
+    entered(folder)
+    return audited(announced, written, readings, "parts" in options)
 
 
 def audit_words(words):
     """The words of demo/audit.sh, for whom what was announced is no file."""
     plain, options = parsed(words, 7, 8, ["reserve", "parts"])
-    program, digest, auction, width, lanes, seats, bits, *secret = plain
-    of_form("ID", "[0-9a-f]{32}", auction)
+    program, digest, auction, width, lanes, seats, bits, *secrets = plain
+    auction = bytes.fromhex(of_form("ID", "[0-9a-f]{32}", auction))
     numbers = [of_form(name, "[1-9][0-9]?", word)
                for name, word in (("WIDTH", width), ("LANES", lanes))]
-    reserve = last_of(options, "reserve", reserve_of)
-    parts = last_of(options, "parts", given_parts)
+    reserve, readings = last_of(options, "reserve", reserve_of), Readings()
+    seats = {seat: "" for seat in seats_of(seats)}
+    digest, bits, program = digest_of(digest), bits_of(bits), program_of(program)
+    parts = last_of(options, "parts", lambda name: read_parts(readings, name))
     announced = Announcement(
-        bytes.fromhex(auction), "vickrey", None, *map(int, numbers),
-        reserve, Unit(None, 0), len(parts or []), {}, None, None,
-        {seat: "" for seat in seats_of(seats)})
-    written = Written(digest_of(digest), bits_of(bits), parts,
-                      secret_of(secret[0]) if secret else None, program_of(program), [])
-    return audited(announced, written, ".")
+        auction, "vickrey", None, *map(int, numbers), reserve, Unit(None, 0), len(parts or []), {},
+        None, None, seats)
+    secrets = [read_own_secret(readings, name, auction) for name in secrets]
+    written = Written(digest, bits, parts, secrets, program, [])
+    return audited(announced, written, readings, "parts" in options)

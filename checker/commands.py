@@ -44,11 +44,12 @@ COMMANDS = {
         "for the auctioneer: tries all seals and secrets, and takes them if all are right",
         "take announcement handed-in crates/vickrey/out/vickrey"),
     "report": Own(
-        "reporting.report", "FILE [ANNOUNCEMENT] [--seal FILE]",
-        "says in sentences what a board or a claim file says, and whether a seal stands there "
-        "unchanged", "report board announcement --seal seal-7"),
+        "reporting.report", "FILE [ANNOUNCEMENT] [--seal FILE].. [--secret FILE]..",
+        "says in sentences what a board or a claim file says, whether a seal stands there "
+        "unchanged, and whether a secret opens the seal at its seat",
+        "report board announcement --seal seal-7 --secret secret-7"),
     "audit": Own(
-        "auditing.audit", "ANNOUNCEMENT DIGEST FOLDER [--secret FILE] [--parts FILE] "
+        "auditing.audit", "ANNOUNCEMENT DIGEST FOLDER [--secret FILE].. [--parts FILE] "
         "[--program PROGRAM] [--bits BITS] [--left-out SEATS]",
         "makes the whole audit, and ends with one sentence",
         "audit announcement $DIGEST . --secret secret-7 --parts parts"),

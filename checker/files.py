@@ -1,4 +1,5 @@
 """Files of lines: how they are read and written, and what a command ends with."""
+import errno
 import os
 import stat
 
@@ -18,32 +19,71 @@ class Verdict(Exception):
         self.status, self.line, self.more = status, line, more
 
 
-def size_of(name):
+def missing(name):
+    return Verdict(5, b"missing " + name)
+
+
+def too_long(name):
+    return Verdict(4, b"too long " + name)
+
+
+def tested_size(name, about):
     """How many bytes a file has that is to be read."""
-    try:
-        about = os.stat(name)
-    except (FileNotFoundError, NotADirectoryError):
-        raise Verdict(5, b"missing " + name) from None
+    if stat.S_ISDIR(about.st_mode):
+        raise IsADirectoryError(errno.EISDIR, os.strerror(errno.EISDIR), name)
     if not stat.S_ISREG(about.st_mode):
-        raise OSError("not a regular file")
+        raise OSError(errno.EINVAL, "Not a regular file", name)
     if about.st_size > LONGEST_FILE:
-        raise Verdict(4, b"too long " + name)
+        raise too_long(name)
     return about.st_size
+
+
+def size_of(name):
+    """How many bytes a file has that is to be read later."""
+    try:
+        return tested_size(name, os.stat(name))
+    except (FileNotFoundError, NotADirectoryError):
+        raise missing(name) from None
+
+
+def without_waiting(name, flags):
+    """Opens a file. A pipe that nobody writes to isn't waited for, where a system can do that."""
+    return os.open(name, flags | getattr(os, "O_NONBLOCK", 0))
+
+
+def opened_regular(name):
+    """A regular file that is open to be read, and how many bytes it has. What is asked of it after
+    it was opened, another file that takes its name can't answer."""
+    file = open(name, "rb", opener=without_waiting)
+    try:
+        return file, tested_size(name, os.fstat(file.fileno()))
+    except (Verdict, OSError):
+        file.close()
+        raise
+
+
+def opened(name):
+    """The same, where a file that isn't there is told as such."""
+    try:
+        return opened_regular(name)
+    except (FileNotFoundError, NotADirectoryError):
+        raise missing(name) from None
 
 
 class Lines:
     """A file that is read line by line, once. What is read goes through a hash, where there is
-    one: then no other program can put another file there in between."""
+    one. A file that is open already, of so many bytes, is left open."""
 
-    def __init__(self, name, hashed=None):
-        self.name, self.number, self.file, self.hashed = name, 0, None, hashed
-        self.left = size_of(name)
+    def __init__(self, name, hashed=None, file=None, size=0):
+        self.name, self.number, self.file, self.hashed = name, 0, file, hashed
+        self.is_own = file is None
+        self.left = size_of(name) if self.is_own else size
 
     def __enter__(self):
         return self
 
     def __exit__(self, *_):
-        if self.file:
+        if self.is_own and self.file:
             self.file.close()
 
     def malformed(self, more=""):
@@ -57,7 +97,8 @@ class Lines:
     def next_of(self, *forms):
         """The fields of the next line by the first of these lists of kinds that it fits."""
         self.number += 1
-        self.file = self.file or open(self.name, "rb")
+        if self.file is None:
+            self.file, self.left = opened(self.name)
         line = self.file.readline(min(LONGEST_LINE, self.left))
         self.left -= len(line)
         if self.hashed:
@@ -69,10 +110,13 @@ class Lines:
         raise self.malformed()
 
     def end(self):
-        """The line `end`, behind which no byte stands."""
+        """The line `end`, after which no byte stands."""
         self.next(b"end")
         self.number += 1
-        if self.left > 0 and self.file.read(1):
+        rest = self.file.read(1) if self.left > 0 else b""
+        if rest:
+            if self.hashed:
+                self.hashed.update(rest)
             raise self.malformed("nothing may stand behind the line `end`")
 
 
@@ -96,21 +140,13 @@ def write(name, lines, others=()):
     kept = [*others, *map(os.fsencode, stores)]
     is_device = os.path.exists(name) and not os.path.isfile(name)
     if is_device and not is_null_or_full(os.stat(name)):
-        raise OSError("is no file that can be written")
+        raise OSError(errno.EINVAL, "Not a file that can be written", name)
     # A device has no bytes that can be lost.
     if not is_device and any(same_file(name, other) for other in kept):
-        raise OSError("may not be written")
+        raise OSError(errno.EPERM, "A file of an auctioneer's store, or one that this command reads "
+                      "or writes otherwise, isn't written over", name)
     with open(os.open(name, os.O_WRONLY | os.O_CREAT | os.O_TRUNC, 0o600), "wb") as file:
         file.writelines(line + b"\n" for line in lines)
-
-
-def digest_of(name, hashed, told=lambda done: None):
-    """Puts a file's bytes through a hash, piece by piece."""
-    with open(name, "rb") as file:
-        for piece in iter(lambda: file.read(2**20), b""):
-            hashed.update(piece)
-            told(len(piece))
-    return hashed
 
 
 def write_new(name, lines):

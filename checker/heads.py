@@ -1,41 +1,37 @@
 """What a board or a claim file says before its first lane, whatever stands there: for whoever
 compares it with an announcement. Where a line isn't of its form, nothing is said."""
+import io
 import re
 
-from .files import LONGEST_LINE, Verdict, size_of
+from .files import LONGEST_LINE
 from .sentences import Outcome
 
 MOST_LINES = 512 * 65 + 200  # of any head
 
 
-def is_file(name):
-    """Whether it is there, and may be read whole."""
-    try:
-        return size_of(name) >= 0
-    except (Verdict, OSError):
-        return False
+def head_lines(data):
+    """The lines before the first lane, without their line feeds, of the bytes of a file or of the
+    first of them."""
+    file, found = io.BytesIO(data), []
+    for line in iter(lambda: file.readline(LONGEST_LINE), b""):
+        if line.startswith(b"lane ") or len(found) == MOST_LINES:
+            break
+        found.append(re.sub(rb"[^a-z0-9 -]", b"?", line.rstrip(b"\n")).decode())
+    return found
 
 
-def start_of(name, most):
-    """The first bytes of a file; nothing of what is none."""
-    if not is_file(name):
-        return b""
-    try:
-        with open(name, "rb") as file:
-            return file.read(most)
-    except OSError:
-        return b""
-
-
-def head_lines(name):
-    """The lines before the first lane, without their line feeds."""
-    found = []
-    if is_file(name):
-        with open(name, "rb") as file:
-            for line in iter(lambda: file.readline(LONGEST_LINE), b""):
-                if line.startswith(b"lane ") or len(found) == MOST_LINES:
-                    break
-                found.append(re.sub(rb"[^a-z0-9 -]", b"?", line.rstrip(b"\n")).decode())
+def seals_of(lines):
+    """The digests of each seal, in lines, by the text of its seat; of a seat that has several seals
+    the first."""
+    found, digests = {}, None
+    for line in lines:
+        if line.startswith("seal "):
+            digests = []
+            found.setdefault(line[len("seal "):], digests)
+        elif line.startswith("x ") and digests is not None:
+            digests.append(line)
+        else:
+            digests = None
     return found
 
 
@@ -47,12 +43,13 @@ def whole(said):
 class Head:
     """The head of what is published."""
 
-    def __init__(self, name):
-        self.lines = head_lines(name)
+    def __init__(self, data):
+        self.lines = head_lines(data)
         self.auction = self.said(2, "auction")
         self.lanes = self.said(4, "lanes")
         seals = (line.split(" ") for line in self.lines if line.startswith("seal "))
         self.seats = [words[1] for words in seals]
+        self.seals = seals_of(self.lines)
 
     def said(self, number, word):
         """What stands behind the word in a line of this number."""
@@ -61,14 +58,9 @@ class Head:
 
     def seal_text(self, seat):
         """The seal at a seat as the text of its file; None where there is none."""
-        mark = f"seal {seat}"
-        if mark not in self.lines:
+        digests = self.seals.get(f"{seat}")
+        if digests is None:
             return None
-        digests = []
-        for line in self.lines[self.lines.index(mark) + 1 :]:
-            if not line.startswith("x "):
-                break
-            digests.append(line)
         lines = ["vickrey-seal 1", f"auction {self.auction}", f"seat {seat}", f"lanes {self.lanes}"]
         return "".join(f"{line}\n" for line in [*lines, *digests, "end"]).encode()
 
@@ -78,8 +70,8 @@ class BoardHead(Head):
 
     what = "board"
 
-    def __init__(self, name):
-        super().__init__(name)
+    def __init__(self, data):
+        super().__init__(data)
         self.is_reserved = self.lines[:1] == ["vickrey-board 2"]
         self.width = self.said(3, "width")
         self.reserve = self.said(6, "reserve") if self.is_reserved else ""
@@ -102,8 +94,8 @@ class ClaimHead(Head):
 
     what = "claim file"
 
-    def __init__(self, name):
-        super().__init__(name)
+    def __init__(self, data):
+        super().__init__(data)
         self.kind = self.said(3, "kind")
         count = whole(self.said(6, "numbers")) or 0
         self.numbers = [whole(self.said(7 + at, "n")) for at in range(min(count, 128))]

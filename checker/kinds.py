@@ -20,14 +20,18 @@ FIRST_LINE = re.compile(rb"vickrey-([a-z]{4,12}) [1-9]\r?\n")
 PARTS = re.compile(rb"part [1-9][0-9]? (commit )?[0-9a-f]{64}\r?\n")
 MARK = b"\xef\xbb\xbf"  # that some editors put before a text
 
-STORE = "a store with all bids, which must never be public"
+NEVER_PUBLIC = {
+    "secret": OURS["secret"], "store": "a store with all bids, which must never be public",
+    "house": "a house with all bids, which must never be public",
+    "key": "a private key, which must never be public",
+}
 # Files that people have beside those of an auction, by how they begin
 OTHERS = [
-    (rb"SQLite format 3\0", "store", STORE),
+    (rb"SQLite format 3\0", "store", NEVER_PUBLIC["store"]),
     # The archive of the page's house: a tar file, whose first file is the house
-    (rb"house\0[\s\S]{251}ustar\0", "house", "a house with all bids, which must never be public"),
-    (rb"-----BEGIN ([A-Z]+ )?PRIVATE KEY|AGE-SECRET-KEY-|# created: ", "key",
-     "a private key, which must never be public"),
+    (rb"house\0[\s\S]{251}ustar\0", "house", NEVER_PUBLIC["house"]),
+    (rb"-----BEGIN ([A-Z]+ )?PRIVATE KEY|(#[^\n]*\n){0,4}AGE-SECRET-KEY-", "key",
+     NEVER_PUBLIC["key"]),
     (rb"-----BEGIN PUBLIC KEY|-----BEGIN CERTIFICATE", "public key", "a public key"),
     (rb"-----BEGIN (SSH|PGP) SIGNATURE|untrusted comment: ", "signature", "a signature"),
     (rb"age-encryption\.org/|-----BEGIN (AGE|PGP|CMS|PKCS7)|MIME-Version: ", "locked",
@@ -42,7 +46,6 @@ OTHERS = [
     (rb"\xff\xfe|\xfe\xff", "text", "a text in UTF-16, as some editors save it"),
     (rb"\Z", "empty", "an empty file"),
 ]
-NEVER_PUBLIC = {"secret", "store", "house", "key"}
 
 
 def kind_of(start):

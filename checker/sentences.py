@@ -3,6 +3,7 @@ from collections import namedtuple
 
 from .amounts import Unit
 from .announcement import DEADLINES
+from .shown import shown
 
 PLAIN = Unit(None, 0)  # where no unit is known
 
@@ -29,20 +30,32 @@ def listed(said):
     return f"{', '.join(front)} and {last}" if front else last
 
 
-def outcome_sentence(outcome, unit=PLAIN):
-    """The outcome, without a full stop."""
+def who_sits(seat, names):
+    """A seat, with the name that was announced for it."""
+    return f"{shown(names[seat])} (seat {seat})" if names.get(seat) else f"Seat {seat}"
+
+
+def winners_said(winners, names):
+    """Who wins: seats alone, where no names are known."""
+    if any(names.get(seat) for seat in winners):
+        return listed([who_sits(seat, names) for seat in winners])
+    return f"Seat {winners[0]}" if len(winners) == 1 else f"Seats {listed(winners)}"
+
+
+def outcome_sentence(outcome, unit=PLAIN, names=None):
+    """The outcome, without a full stop, with the names of those who sit at the seats."""
     if outcome.kind == "matching":
         couples = [f"man {man} with woman {woman}" for man, woman in enumerate(outcome.women, 1)]
         return f"Matched are {listed(couples)}"
-    price = unit.amount(outcome.price)
-    if outcome.kind == "uniform":
-        said = listed(outcome.winners)
-        if len(outcome.winners) == 1:
-            return f"Seat {said} wins one unit and pays {price}"
-        return f"Seats {said} win one unit each and pay {price}"
-    if not outcome.winners:
+    price, winners = unit.amount(outcome.price), outcome.winners
+    if not winners:
         return f"Nothing is sold: every bid is below the reserve of {unit.amount(outcome.reserve)}"
-    return f"Seat {outcome.winners[0]} wins and pays {price}"
+    said = winners_said(winners, names or {})
+    if outcome.kind == "vickrey":
+        return f"{said} wins and pays {price}"
+    if len(winners) == 1:
+        return f"{said} wins one unit and pays {price}"
+    return f"{said} win one unit each and pay {price}"
 
 
 def time_said(time):
@@ -131,14 +144,14 @@ def report_sentences(name, front, outcome, digest, said=None):
     seals = "1 seal" if len(front.seats) == 1 else f"{len(front.seats)} seals"
     lanes = "1 lane" if front.lanes == 1 else f"{front.lanes} lanes"
     yield f"{name} is a whole {what} of the auction {front.auction.hex()}, of {seals} in {lanes}."
-    yield f"{outcome_sentence(outcome, unit)}."
+    yield f"{outcome_sentence(outcome, unit, names)}."
     if outcome.kind == "vickrey" and outcome.winners:
         reserve = outcome.reserve
-        named = "It names no reserve" if reserve is None else f"Its reserve is {unit.amount(reserve)}"
+        named = "There is no reserve" if reserve is None else f"Its reserve is {unit.amount(reserve)}"
         yield f"{named}."
     yield f"Its seals stand in this order: {listed(front.seats)}."
     for seat in front.seats:
         if seat in names:
-            yield f"Seat {seat} is {names[seat]}."
+            yield f"Seat {seat} is {shown(names[seat])}."
     yield f"SHA-256 digest: {digest}"
-    yield "This is what the file says. Whether it is right, the audit shows."
+    yield "This is only what the file says. Run the audit to check it."

@@ -58,16 +58,16 @@ def check_lane(front, lane, digests, posted, bit, shown, reply):
             raise refused(reply, lane, b"row %d" % index)
 
 
-def verify(front_of, names, told=lambda lane, lanes: None, hashed=None):
-    """Every test, in order; the first that fails is raised. The bytes of the board or claim file go
-    through a hash, where there is one."""
-    published, challenge, reply = names
-    with Lines(published, hashed) as front, Lines(challenge) as asked, Lines(reply) as replied:
+def verify(front_of, sources, told=lambda lane, lanes: None):
+    """Every test, in order; the first that fails is raised. The sources give the lines of the board
+    or claim file, of the challenge and of the reply."""
+    published, challenge, reply = sources
+    with published as front, challenge as asked, reply as replied:
         return judge(front_of(front), read_challenge(asked), replied, told)
 
 
 def judge(front, challenge, reply, told):
-    """The tests behind the head and the challenge."""
+    """The tests after the head and the challenge."""
     reply.next(b"vickrey-reply", b"1")
     [lanes] = reply.next(b"lanes", lane_count)
     if not len(challenge) == lanes == front.lanes:
@@ -83,9 +83,14 @@ def judge(front, challenge, reply, told):
     return b"accepted"
 
 
+def verify_files(front_of, names):
+    """The same of files by their names."""
+    return verify(front_of, [Lines(name) for name in names])
+
+
 def verify_board(*names):
-    return verify(Board, names)
+    return verify_files(Board, names)
 
 
 def verify_claim(*names):
-    return verify(Claim, names)
+    return verify_files(Claim, names)

@@ -97,9 +97,13 @@ step 'again, it says where it stands' 0 '12 of 12 seals were taken before.' -- i
 random() { od -An -v -tx1 -N32 /dev/urandom | tr -d ' \n'; }
 step 'the board' 0 'proved winner 9 price 17325' -- vickrey prove "$id" "$(random)" ../public/board
 digest=$(sha256sum public/board | cut -d ' ' -f 1)
-step 'the board in sentences' 0 'Seat 9 wins and pays 173.25 EUR.' 'Its reserve is 50.00 EUR.' 'Seat 9 is Bidder 9.' "SHA-256 digest: $digest" \
+step 'the board in sentences' 0 'Bidder 9 (seat 9) wins and pays 173.25 EUR.' 'Its reserve is 50.00 EUR.' 'Seat 9 is Bidder 9.' "SHA-256 digest: $digest" \
   'The seal of seat 3 stands there, unchanged.' -- check report public/board announcement --seal bidder-3/seal-3
-step 'a seal that is not on the board' 1 "The seal of seat 3 DOESN'T stand there" -- check report public/board --seal elsewhere/seal-3
+step 'a seal that is not on the board' 1 "The board doesn't have the seal in elsewhere/seal-3." -- check report public/board --seal elsewhere/seal-3
+step 'a secret and what it opens' 0 'Your seal of seat 3 stands there: bidder-3/secret-3 opens it in each lane.' -- \
+  check report public/board announcement --secret bidder-3/secret-3
+step 'a secret that opens nothing' 1 "The board doesn't have my seal of seat 3: elsewhere/secret-3 doesn't open" -- \
+  check report public/board --secret elsewhere/secret-3
 step 'nothing is taken any more' 0 'The auction is proved.' -- in_house "$take" ../announcement ../handed "$program"
 : >parts
 for auditor in 1 2 3; do
@@ -115,15 +119,22 @@ step 'the challenge' 0 'joined auditors 3 bits 40' -- check coin-join public/coi
 step 'the reply' 0 answered -- vickrey answer "$id" ../public/challenge ../public/reply
 
 # The audit: by anybody with Python alone, by bidders, and with both checkers
-step 'the audit' 0 'Seat 9 wins and pays 173.25 EUR. All 21 checks hold.' -- check audit announcement "$digest" public --parts parts
+step 'the audit' 0 'Bidder 9 (seat 9) wins and pays 173.25 EUR. All 21 checks hold.' \
+  'a wrong outcome passes at most once in 1,099,511,627,776 tries, if nobody foresaw the challenge.' -- check audit announcement "$digest" public --parts parts
 for seat in 4 9 12; do
-  step "the audit of seat $seat" 0 'Seat 9 wins and pays 173.25 EUR. All 24 checks hold.' -- \
+  step "the audit of seat $seat" 0 'Bidder 9 (seat 9) wins and pays 173.25 EUR. All 25 checks hold.' -- \
     check audit announcement "$digest" public --parts parts --secret "bidder-$seat/secret-$seat" --program "$program"
 done
 step 'an audit without parts is none' 2 'give their parts' -- check audit announcement "$digest" public
+step 'the audit by the secret of another bid' 1 "FAILED  the board doesn't have my seal of seat 3" -- \
+  check audit announcement "$digest" public --parts parts --secret elsewhere/secret-3
+cp elsewhere/seal-3 public
+step 'a seal that is not the public one' 1 'FAILED  the seal of seat 3 is missing from the board, or was changed' \
+  "Don't rely on this outcome: 1 of 21 checks FAILED." -- check audit announcement "$digest" public --parts parts
+cp bidder-3/seal-3 public
 mv public/seal-8 seal-8
 cp short public/seal-8
-step 'a seal that is not the public one' 1 'FAILED  the seal of seat 8 stands on the board' "Don't rely on this outcome: of 21 checks 1 of them FAILED." -- \
+step 'a seal that was cut off is no verdict' 2 "unread  seal-8: line 21 isn't as it has to be there" 'Nothing was judged: 1 file' -- \
   check audit announcement "$digest" public --parts parts
 
 # A house that took the seats by hand in another order: nothing is published, so it begins anew

@@ -23,7 +23,7 @@ lanes=${#bits}
 failed_case() { failed=$((failed + 1)); echo "FAILED: $*"; }
 
 # tried NAME FOLDER STATUS WORDS FAILURE..: the audit with the options and these words in that folder ends so, and just these
-# lines FAILED, each told by a part of it
+# lines FAILED, each told by a part of it; or with status 2 just these files can't be used, and then nothing FAILED
 tried() {
   local name=$1 where=$2 status=$3 got failure lines each
   read -ra each <<<"$4"
@@ -31,11 +31,12 @@ tried() {
   (cd "$where" && "$audit" "${options[@]}" "$program" "${each[@]}") >said 2>errors
   got=$?
   [ "$got" = "$status" ] || { failed_case "$name: status $got, not $status: $(cat said errors)"; return; }
-  lines=$(grep -c '^FAILED ' said)
+  lines=$(grep -c '^FAILED \|^unread ' said)
   [ "$lines" = $# ] || { failed_case "$name: $lines lines, not $#: $(cat said errors)"; return; }
   for failure in "$@"; do
-    grep -q "^FAILED  .*$failure" said || { failed_case "$name: no line of '$failure': $(cat said errors)"; return; }
+    grep -q "^\(FAILED\|unread\)  .*$failure" said || { failed_case "$name: no line of '$failure': $(cat said errors)"; return; }
   done
+  if [ "$status" = 2 ] && grep -q '^ok \|^FAILED' said; then failed_case "$name: a verdict: $(cat said)"; return; fi
   if [ "$status" != 2 ] && [ -s errors ]; then failed_case "$name: $(cat errors)"; return; fi
   if [ "$status" != 2 ] && ! alone "$where" "${each[@]}"; then failed_case "$name, with Python alone: $(diff with alone)"; return; fi
   passed=$((passed + 1))
@@ -115,7 +116,7 @@ tried 'an honest auction' honest 0 "$words"
 for seat in 300 9 7; do
   tried "an honest auction, seat $seat" honest 0 "$words ../secret-$seat"
 done
-if grep -q '^12 ok, 0 FAILED$' said && ! sed "s/$id//; s/$honest//" said | grep -q 15; then
+if grep -q '^13 ok, 0 FAILED$' said && ! sed "s/$id//; s/$honest//" said | grep -q 15; then
   passed=$((passed + 1))
 else
   failed_case "the words of an honest audit, and no bid among them: $(cat said)"
@@ -131,14 +132,15 @@ tried 'the same, by a bidder who lost by it' false 1 "$words ../secret-9" "board
 tried 'the same, by one who did not' false 1 "$words ../secret-300" "board's digest"
 
 # a bid above the price: the draw was foreseen, and the digest is public in time
-tried 'a bid above the price' false 1 "$(digest false) $id 4 $lanes 7,9,300 $bits ../secret-9" "my bid isn't above the price"
+tried 'a bid above the price' false 1 "$(digest false) $id 4 $lanes 7,9,300 $bits ../secret-9" "my bid is above the price"
 python3 "$here/foreseen.py" $bits robbed "$lanes" secret-7=3 secret-9=9 secret-300=4
 cp seal-* robbed
-tried 'the highest bid does not win' robbed 1 "$(digest robbed) $id 4 $lanes 7,9,300 $bits ../secret-7" "my bid isn't above the price"
-python3 "$here/foreseen.py" $bits dear "$lanes" secret-7=15 secret-9=9 secret-300=14
+tried 'the highest bid does not win' robbed 1 "$(digest robbed) $id 4 $lanes 7,9,300 $bits ../secret-7" "my bid is above the price"
+python3 "$here/foreseen.py" $bits dear "$lanes" secret-7=3 secret-9=15 secret-300=14
 cp seal-* dear
+tried 'a price above the bid that won' dear 1 "$(digest dear) $id 4 $lanes 7,9,300 $bits ../secret-9" 'the price is above my bid'
 sed 's/^bid 15$/bid 13/' secret-7 >modest
-tried 'a price above the bid that won' dear 1 "$(digest dear) $id 4 $lanes 7,9,300 $bits ../modest" "price isn't above my bid"
+tried 'a secret with another bid' honest 1 "$words ../modest" 'my seal of seat 7'
 
 # a board of one lane, whose digest is public in time
 python3 "$here/foreseen.py" $bits short 1 secret-7=15 secret-9=9 secret-300=4
@@ -155,14 +157,17 @@ tried 'seals in another order' turned 1 "$(digest turned) $id 4 $lanes 7,9,300 $
 mkdir kept && mv seal-9 secret-9 kept
 run 0 seal $id 9 1 4 "$lanes" "$two" secret-9 seal-9
 auction swapped "$one" $bits 7 9 300
+cp seal-9 swapped-seal
 cp kept/* .
 cp seal-9 swapped
-tried 'another seal at a seat' swapped 1 "$(digest swapped) $id 4 $lanes 7,9,300 $bits ../secret-9" 'seat 9 ' 'my bid'
+tried 'another seal at a seat' swapped 1 "$(digest swapped) $id 4 $lanes 7,9,300 $bits ../secret-9" 'seat 9 is missing' 'my seal of seat 9'
+cp swapped-seal swapped/seal-9
+tried 'the same, and the public folder has it too' swapped 1 "$(digest swapped) $id 4 $lanes 7,9,300 $bits ../secret-9" 'my seal of seat 9'
 tried 'another id' honest 1 "$honest ${id/0f/1f} 4 $lanes 7,9,300 $bits" "board's id"
 tried 'another width' honest 1 "$honest $id 5 $lanes 7,9,300 $bits" width
 copy gone
 rm gone/seal-9
-tried 'a seal that is not at hand' gone 1 "$words" 'seat 9 .*no file seal-9'
+tried 'a seal that is not at hand' gone 2 "$words" 'seal-9: No such file or directory'
 
 # reserves: above the price without one, below it, and above all bids
 reserve=12 auction at "$one" $bits 7 9 300
@@ -176,8 +181,8 @@ for seat in 300 9 7; do
   options=(--reserve 8)
   tried "sold above the reserve, seat $seat" above 0 "$(digest above) $id 4 $lanes 7,9,300 $bits ../secret-$seat"
 done
-tried 'an announced reserve that the board has not' honest 1 "$words" 'reserve is the announced one: not 8'
-tried 'another reserve' at 1 "$(digest at) $id 4 $lanes 7,9,300 $bits" 'reserve is the announced one: not 8, but .12'
+tried 'an announced reserve that the board has not' honest 1 "$words" "reserve isn't the announced one: none, not 8"
+tried 'another reserve' at 1 "$(digest at) $id 4 $lanes 7,9,300 $bits" "reserve isn't the announced one: .12., not 8"
 options=(--reserve 10)
 for seat in 300 9; do
   tried "unsold, seat $seat" unsold 0 "$(digest unsold) $id 4 $lanes 9,300 $bits ../secret-$seat"
@@ -185,7 +190,7 @@ done
 python3 "$here/foreseen.py" $bits kept-back "$lanes" reserve=10 secret-7=3 secret-9=9 secret-300=4
 cp seal-* kept-back
 tried 'not sold, though a bid is above the reserve' kept-back 1 "$(digest kept-back) $id 4 $lanes 7,9,300 $bits ../secret-7" \
-  'my bid is below the reserve'
+  "my bid isn't below the reserve"
 tried 'the same, by one who did not bid as much' kept-back 0 "$(digest kept-back) $id 4 $lanes 7,9,300 $bits ../secret-300"
 options=(--reserve)
 tried 'a word too few behind the option' honest 2 "$words"
@@ -221,18 +226,18 @@ tossed="$honest $id 4 $lanes 7,9,300 $joint"
 sed '1{p;s/ 1 / 2 /;h;d};2g' coins/parts >coins/other-parts
 options=(--parts ../coins/parts)
 tried 'a challenge by three auditors' tossed 0 "$tossed"
-tried 'an auditor left out' fewer 1 "$honest $id 4 $lanes 7,9,300 $fewer" 'the coin has the parts'
+tried 'an auditor left out' fewer 1 "$honest $id 4 $lanes 7,9,300 $fewer" "the coin doesn't have the parts"
 cp -r tossed moved
 sed -i '/^show 2 /{s/0$/x/;s/1$/0/;s/x$/1/}' moved/coin
-tried 'another share than was fixed' moved 1 "$tossed" 'the program joins .*refused coin part 2' 'check.py joins .*refused coin part 2'
+tried 'another share than was fixed' moved 1 "$tossed" "the program doesn't join .*refused coin part 2" "check.py doesn't join .*refused coin part 2"
 copy claimed
 cp coins/coin claimed
-tried 'another challenge than the auditors drew' claimed 1 "$words" 'the program joins .*other bits' 'check.py joins .*other bits'
-tried 'no coin' honest 1 "$words" 'the coin has the parts' 'the program joins .*missing coin' 'check.py joins .*missing coin'
+tried 'another challenge than the auditors drew' claimed 1 "$words" "the program doesn't join .*other bits" "check.py doesn't join .*other bits"
+tried 'no coin' honest 2 "$words" 'coin: No such file or directory'
 options=(--parts ../coins/other-parts)
-tried 'another part than was public' tossed 1 "$tossed" 'the coin has the parts'
+tried 'another part than was public' tossed 1 "$tossed" "the coin doesn't have the parts"
 options=(--parts coin)
-tried 'parts of another form' tossed 2 "$tossed"
+tried 'parts of another form' tossed 2 "$tossed" 'coin: this is a coin'
 options=(--parts)
 tried 'no parts behind the option' tossed 2 "$tossed"
 options=()
@@ -242,31 +247,39 @@ auction asked "$one" $other 7 9 300
 tried 'another challenge' asked 1 "$words" 'the challenge'
 copy crossed
 cp asked/reply crossed
-tried 'a reply to another challenge' crossed 1 "$words" 'the program accepts the reply: .*malformed reply' 'check.py accepts the reply: .*malformed reply'
+tried 'a reply to another challenge' crossed 2 "$words" "reply: this is a reply to another challenge, with the bits $other"
 
 # a reply refused, files that are missing or damaged
 copy refused
 sed -i '/^h /{s/[1-8]$/9/;:a;n;ba}' refused/reply
 cmp -s honest/reply refused/reply && sed -i '/^h /{s/[09]$/1/;:a;n;ba}' refused/reply
-tried 'a reply refused' refused 1 "$words" 'the program accepts the reply: .*refused reply lane 1 wire 0' 'check.py accepts the reply: .*refused reply lane 1 wire 0'
+tried 'a reply refused' refused 1 "$words" "the program doesn't accept the reply: .*refused reply lane 1 wire 0" \
+  "check.py doesn't accept the reply: .*refused reply lane 1 wire 0"
 copy torn
 sed -i '$d' torn/board
 tried 'a board without its end' torn 1 "$words" "board's digest" 'the program .*malformed board' 'check.py .*malformed board'
 mkdir bare
-tried 'no file at all' bare 1 "$words" "board's digest" "board's id" width lanes seats 'seat 7 ' 'seat 9 ' 'seat 300 ' 'the challenge' 'the program .*missing board' \
-  'check.py .*missing board'
+tried 'no file at all' bare 2 "$words" 'board: No such' 'challenge: No such' 'reply: No such' 'seal-7: No such' 'seal-9: No such' 'seal-300: No such'
 mkdir odd odd/challenge
 mkfifo odd/board odd/seal-7
-tried 'folders and pipes for files' odd 1 "$id$id $id 4 $lanes 7 $bits" "board's digest" "board's id" width lanes seats 'seat 7 ' 'the challenge' \
-  'the program .*outside fault' 'check.py .*outside fault'
+tried 'folders and pipes for files' odd 2 "$id$id $id 4 $lanes 7 $bits" 'board: Not a regular file' 'challenge: Is a directory' 'reply: No such file' \
+  'seal-7: Not a regular file'
 copy noise
 head -c 3000 /dev/urandom >noise/board
-tried 'a board of noise' noise 1 "$words ../secret-9" "board's digest" "board's id" width lanes seats 'seat 7 ' 'seat 9 ' 'seat 300 ' 'the program .*malformed board line 1' \
-  'check.py .*malformed board line 1' 'my bid'
-tried 'a secret that is none' honest 1 "$words board" 'my bid'
-tried 'a secret that is not there' honest 1 "$words nowhere" 'my bid'
+tried 'a board of noise' noise 2 "$words ../secret-9" "board: this is a file that is none of this program's"
+tried 'a secret that is none' honest 2 "$words board" 'board: this is a board. It has to be a secret'
+tried 'a secret that is not there' honest 2 "$words nowhere" 'nowhere: No such file'
 sed "s/^seat 9$/seat 10/" secret-9 >stranger
-tried 'a secret of another seat' honest 1 "$words ../stranger" 'my bid'
+tried 'a secret of another seat' honest 1 "$words ../stranger" 'my seal of seat 10: it has no seal at that seat'
+for name in board challenge reply seal-7; do
+  copy "crlf-$name"
+  sed -i 's/$/\r/' "crlf-$name/$name"
+  tried "$name with CR LF" "crlf-$name" 2 "$words" "$name: this is a .* that was changed on the way"
+done
+copy open
+cp secret-7 open/handed-in
+tried 'a secret in the public folder' open 0 "$words"
+grep -q '^ALARM   handed-in is a secret, which must never be public' said || failed_case "no alarm of a secret: $(cat said)"
 
 # a secret that is wrong at first: nothing is taken, and then all are in the announced order; never in another one
 mkdir handed intake taken

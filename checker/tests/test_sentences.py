@@ -30,21 +30,25 @@ class Sentences(InFolder):
         with self.said() as printed:
             report([os.path.join(DATA, "board")])
             said = printed()
-        self.assertIn("\nSeat 7 wins and pays 0.\nIt names no reserve.\n", said)
+        self.assertIn("\nSeat 7 wins and pays 0.\nThere is no reserve.\n", said)
 
     def test_whether_a_seal_stands_on_the_board(self):
         board = os.path.join(DATA, "board")
-        seal = BoardHead(board.encode()).seal_text(7)
+        seal = BoardHead(self.read(board)).seal_text(7)
         table = [(seal, 0, "The seal of seat 7 stands there, unchanged."),
-                 (seal.replace(b"x 0", b"x 1"), 1, "The seal of seat 7 DOESN'T stand there"),
-                 (seal.replace(b"seat 7", b"seat 9"), 1, "The seal of seat 9 DOESN'T stand there")]
+                 (seal.replace(b"x 0", b"x 1"), 1, "The board doesn't have the seal in seal."),
+                 (seal.replace(b"seat 7", b"seat 9"), 1, "The board doesn't have the seal in")]
         for data, status, text in table:
             self.put("seal", data)
             with self.said() as printed:
                 self.assertEqual(report([board, "--seal", "seal"]), status)
                 self.assertIn(text, printed())
-        for data, status in ((b"", 4), (b"text", 4), (seal.replace(b"auction 0", b"auction 1"), 8)):
+        for data in (b"", b"text", seal[:-1], self.read(board)):
             self.put("seal", data)
-            with self.said(), self.assertRaises(Verdict) as raised:
-                report([board, "--seal", "seal"])
-            self.assertEqual(raised.exception.status, status)
+            with self.said() as printed:
+                self.assertEqual(report([board, "--seal", "seal"]), 2)
+                self.assertTrue(printed().startswith("unread  seal: "))
+        self.put("seal", seal.replace(b"auction 0", b"auction 1"))
+        with self.said(), self.assertRaises(Verdict) as raised:
+            report([board, "--seal", "seal"])
+        self.assertEqual(raised.exception.status, 8)
